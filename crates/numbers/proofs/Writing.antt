@@ -1,0 +1,39 @@
+-- What a plain writer leaves, from what its code does: a room too short is refused, and bytes laid one by one or all at once are laid.
+-- Assumes nothing.
+use mathlib.Core.Path.{_≡_, sym, ap₂, _∙_}
+use mathlib.Core.List.{List, [], _∷_, _++_}
+use Prim.Native.Nat.{ℕ, suc, _≤_, _<_}
+use native.Mathlib.Nat.{le-refl}
+use native.Mathlib.Omega.{arith}
+use lib.ListN.{length, take, drop, set, length-append, length-drop, take-append-drop}
+use lib.Seq.{drop-cons, take-suc-set, drop-set-lt, append-snoc}
+use borrow.Author.Tests.{lt-ltb, le-ltb}
+use Rattle.numbers.specs.declared.Put.the-variants.{Bytes}
+use Rattle.numbers.specs.declared.Refusal.the-variants.{Room}
+use Rattle.numbers.specs.Put.{written, refused, over, writing}
+
+pub writing-refused : (bytes room : List ℕ) → length room < length bytes → refused Room room ≡ writing bytes room
+unfolding writing
+writing-refused bytes room h = rw (lt-ltb _ _ h)
+
+pub writing-laid : (bytes room : List ℕ) (k : ℕ) (left : List ℕ) → length bytes ≤ length room → k ≡ length bytes → left ≡ over bytes room
+    → written (Bytes k) left ≡ writing bytes room
+unfolding writing
+writing-laid bytes room k left h e f = rw (le-ltb _ _ h) (ap₂ (λ j l. written (Bytes j) l) e f)
+
+-- the first of the bytes to be laid from i on is laid
+pub over-one : (bytes : List ℕ) (b : ℕ) (rest room : List ℕ) (i : ℕ) → bytes ≡ b ∷ rest → i < length room
+    → take (suc i) (set room i b) ++ over rest (drop (suc i) (set room i b)) ≡ take i room ++ over bytes (drop i room)
+unfolding over
+over-one bytes b rest room i e h =
+    rw (e, take-suc-set room i b h, drop-set-lt (suc i) room i b (le-refl (suc i)), append-snoc, drop-cons room i 0 h)
+
+-- and it is the last
+pub over-last : (bytes : List ℕ) (b : ℕ) (room : List ℕ) (i : ℕ) → bytes ≡ b ∷ [] → i < length room
+    → set room i b ≡ take i room ++ over bytes (drop i room)
+unfolding over
+over-last bytes b room i e h = sym (take-append-drop (suc i) (set room i b)) ∙ over-one bytes b [] room i e h
+
+pub length-over : (bytes room : List ℕ) → length bytes ≤ length room → length (over bytes room) ≡ length room
+unfolding over
+length-over bytes room h = simp (length-append, length-drop) (omega arith)
