@@ -10,6 +10,8 @@ use borrow.Fn.Kinds.{PK, RK, Out, Dens, resT, endedOf}
 use Rattle.numbers.specs.declared.Put.{Put}
 use Rattle.numbers.proofs.digit.Kinds as digit
 use Rattle.numbers.proofs.digit.Reads as digit-reads
+use Rattle.numbers.proofs.Refusal.number.Kinds as number
+use Rattle.numbers.proofs.Refusal.number.Reads as number-reads
 use Rattle.numbers.proofs.put_digits.Kinds as put-digits
 use Rattle.numbers.proofs.put_digits.Reads as put-digits-reads
 use Rattle.numbers.proofs.read_digits.Kinds as read-digits
@@ -56,3 +58,6 @@ write-groups-tied =
 
 pub read-groups-tied : Tied read-groups.ps read-groups.r read-groups-reads.Post (λ κs x e. x)
 read-groups-tied = tied read-groups.ps read-groups.r read-groups-reads.Post (λ κs x e. x) _ (λ κs a x e p. p)
+
+pub number-tied : Tied number.ps number.r number-reads.Post (λ κs x e. x)
+number-tied = tied number.ps number.r number-reads.Post (λ κs x e. x) _ (λ κs a x e p. p)

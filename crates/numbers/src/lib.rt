@@ -4,7 +4,7 @@ ghost use Prim.Native.Nat.{_+_, _-_, _≤_, _<_};
 ghost use lib.ListN.{length};
 ghost use Rattle.numbers.specs.Decimal.{digitOf, digits, width, decimal, isDigit, readDigits};
 ghost use Rattle.numbers.specs.Seven.{groups, groupAfter, readGroups, Begun};
-ghost use Rattle.numbers.specs.Put.{Written, written, writing};
+ghost use Rattle.numbers.specs.Put.{refusalNumber, written, writing};
 
 // Why a plain writer refuses.
 pub enum Refusal {
@@ -12,6 +12,18 @@ pub enum Refusal {
     Room,
     // A code, count, address, length or field is outside its range.
     Range,
+}
+
+impl Refusal {
+    // Document 01's number.
+    pub fn number(self) -> u8
+        ensures { λ r. ⌜ r ≡ refusalNumber self ⌝ }
+    {
+        match self {
+            Refusal::Room => 1,
+            Refusal::Range => 2,
+        }
+    }
 }
 
 // What a plain writer answers: how many bytes it put at the room's start, or why it put none.
