@@ -47,13 +47,13 @@ impl Fault {
 fn check_of(s: &[u8]) -> u8
     ensures { λ r. ⌜ r ≡ check (now (s .entry)) ⌝ }
 {
-    let mut acc: u8 = 0;
-    let mut i: usize = 0;
-    while i < s.len() {
-        acc = acc ^ s[i];
-        i += 1;
+    let mut sum: u8 = 0;
+    let mut at: usize = 0;
+    while at < s.len() {
+        sum = sum ^ s[at];
+        at += 1;
     }
-    acc
+    sum
 }
 
 // Lays the bytes and then their check at the start of the room, and says how many bytes that makes.
@@ -62,15 +62,15 @@ pub(crate) fn lay(bytes: &[u8], room: &mut [u8]) -> usize
     ensures { λ r. ⌜ (r ≡ length (closed (now (bytes .entry))))
         × (now (room .exit) ≡ over (closed (now (bytes .entry))) (now (room .entry))) ⌝ }
 {
-    let mut acc: u8 = 0;
+    let mut sum: u8 = 0;
     let mut i: usize = 0;
     while i < bytes.len() {
         let b = bytes[i];
         room[i] = b;
-        acc = acc ^ b;
+        sum = sum ^ b;
         i += 1;
     }
-    room[i] = acc;
+    room[i] = sum;
     i + 1
 }
 

@@ -28,14 +28,14 @@ unfolding left
 left-end s i e = rw (e, drop-length s)
 
 abbrev Inv-loop : tie.InvT-loop
-Inv-loop bytes room₀ acc₀ i₀ room acc i =
+Inv-loop bytes room₀ sum₀ i₀ room sum i =
     (i ≤ length bytes)
     × (length room ≡ length room₀)
     × (take i room ++ over (left bytes i) (drop i room) ≡ over (closed bytes) room₀)
-    × (checkFrom acc (drop i bytes) ≡ check bytes)
+    × (checkFrom sum (drop i bytes) ≡ check bytes)
 
 abbrev μ-loop : tie.MeasureT-loop
-μ-loop bytes room₀ acc₀ i₀ room acc i = length bytes - i
+μ-loop bytes room₀ sum₀ i₀ room sum i = length bytes - i
 
 loop-holds : tie.Need-loop-holds Inv-loop μ-loop
 unfolding left closed check
@@ -80,7 +80,7 @@ returns c =
     let l = c .before .loop in
     let s = c .before .before .args .bytes .now in
     let e : l .i ≡ length s = omega arith in
-    let k : l .acc ≡ check s = check-end (l .acc) (l .i) s e (l .inv .3) in
+    let k : l .sum ≡ check s = check-end (l .sum) (l .i) s e (l .inv .3) in
     let r : l .i < length (l .room) = omega (arith, c .before .before .pre) in (
       rw (e, length-append),
       rw k (over-last _ _ (l .room) (l .i) (left-end s (l .i) e) r ∙ l .inv .2),
