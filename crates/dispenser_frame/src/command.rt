@@ -19,7 +19,7 @@ use crate::frame::two_digits;
 use numbers::Put;
 use numbers::Refusal;
 
-// The fewest and the most notes that a command can ask of a cassette.
+// The fewest notes that a command can ask of a cassette, and the most.
 const LEAST: u32 = 1;
 
 const MOST: u32 = 60;

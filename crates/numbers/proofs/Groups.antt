@@ -20,6 +20,8 @@ use Rattle.numbers.specs.declared.Group.the-variants.{More, Last, Wrong}
 use Rattle.numbers.specs.declared.Seven.{Seven}
 use Rattle.numbers.specs.declared.Seven.the-variants.{Value, Bad, Cut}
 use Rattle.numbers.proofs.Rules.{by-cases, fails-false, holds-true}
+use Rattle.numbers.specs.Decimal.{places}
+use Rattle.numbers.proofs.Decimal.{places-small, places-large}
 use Rattle.numbers.proofs.Divided.{divided-ind, divided-small, divided-large}
 
 -- ---- the groups of a number, one at a time
@@ -38,6 +40,13 @@ groups-some n =
     by-cases (under n 128)
     (λ h. omega (arith, ap length (groups-small n h)))
     (λ k. omega (arith, ap length (groups-large n (omega arith))))
+
+-- as many as the number has digits to the base 128
+pub length-groups : (n : ℕ) → length (groups n) ≡ places 128 n
+length-groups =
+    divided-ind 128 (lit< tt) (λ n. length (groups n) ≡ places 128 n)
+    (λ n h. ap length (groups-small n h) ∙ sym (places-small 128 (lit< tt) n h))
+    (λ n h ih. ap length (groups-large n h) ∙ ap suc ih ∙ sym (places-large 128 (lit< tt) n h))
 
 -- ---- one group
 

@@ -4,8 +4,7 @@ use Prim.Native.Nat.{ℕ, zero, suc, _+_, _*_, _/_, _%_, _≤_, _<_}
 use mathlib.Core.Bool.{cond}
 use mathlib.Core.List.{List, [], _∷_}
 use lib.Dec.{ltb}
-use lib.ListN.{length}
-use Rattle.numbers.specs.Rules.{Condition, both, atMost, under, same, firstOf, _gives_}
+use Rattle.numbers.specs.Rules.{both, atMost, under, same, firstOf, _gives_}
 use Rattle.numbers.specs.declared.Group.{Group}
 use Rattle.numbers.specs.declared.Group.the-variants.{More, Last, Wrong}
 use Rattle.numbers.specs.declared.Seven.{Seven}

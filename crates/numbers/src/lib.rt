@@ -2,7 +2,7 @@
 ghost use mathlib.Core.Path.{_≡_};
 ghost use Prim.Native.Nat.{_+_, _-_, _≤_, _<_};
 ghost use lib.ListN.{length};
-ghost use Rattle.numbers.specs.Decimal.{digitOf, digits, width, decimal, isDigit, readDigits};
+ghost use Rattle.numbers.specs.Decimal.{digitOf, digits, places, decimal, readDigits};
 ghost use Rattle.numbers.specs.Seven.{groups, groupAfter, readGroups, Begun};
 ghost use Rattle.numbers.specs.Put.{refusalNumber, written, writing};
 
@@ -84,14 +84,15 @@ pub fn read_digits(s: &[u8]) -> Number
     Number::Of(n)
 }
 
-// How many digits n has.
-fn width_of(n: u32) -> usize
-    ensures { λ r. ⌜ r ≡ width n ⌝ }
+// How many digits n has to a base.
+fn places_of(n: u32, base: u32) -> usize
+    requires { ⌜ 1 < base ⌝ }
+    ensures { λ r. ⌜ r ≡ places base n ⌝ }
 {
     let mut k: usize = 1;
     let mut rest = n;
-    while 10 <= rest {
-        rest = rest / 10;
+    while base <= rest {
+        rest = rest / base;
         k += 1;
     }
     k
@@ -101,7 +102,7 @@ fn width_of(n: u32) -> usize
 pub fn write_decimal(n: u32, room: &mut [u8]) -> Put
     ensures { λ r. ⌜ written r (now (room .exit)) ≡ writing (decimal n) (now (room .entry)) ⌝ }
 {
-    let k = width_of(n);
+    let k = places_of(n, 10);
     if room.len() < k {
         return Put::Refused(Refusal::Room);
     }
@@ -109,24 +110,11 @@ pub fn write_decimal(n: u32, room: &mut [u8]) -> Put
     Put::Bytes(k)
 }
 
-// How many groups n has.
-fn groups_of(n: u32) -> usize
-    ensures { λ r. ⌜ r ≡ length (groups n) ⌝ }
-{
-    let mut k: usize = 1;
-    let mut rest = n;
-    while 128 <= rest {
-        rest = rest / 128;
-        k += 1;
-    }
-    k
-}
-
 // n in groups of seven bits, shortest form, at the start of the room.
 pub fn write_groups(n: u32, room: &mut [u8]) -> Put
     ensures { λ r. ⌜ written r (now (room .exit)) ≡ writing (groups n) (now (room .entry)) ⌝ }
 {
-    let k = groups_of(n);
+    let k = places_of(n, 128);
     if room.len() < k {
         return Put::Refused(Refusal::Room);
     }
