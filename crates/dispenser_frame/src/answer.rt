@@ -14,14 +14,14 @@ use crate::errors::is_listed;
 use crate::frame::Fault;
 use crate::frame::Verdict;
 use crate::frame::both;
-use crate::frame::byte_within;
 use crate::frame::count;
-use crate::frame::count_within;
 use crate::frame::judge;
 use crate::frame::lay;
 use crate::frame::two_digits;
 use numbers::Put;
 use numbers::Refusal;
+use numbers::byte_within;
+use numbers::count_within;
 
 // The most notes that CHK or EXIT counts in a payment, that CHK counts in a test, and that a cassette rejects.
 const PASSED: u32 = 69;

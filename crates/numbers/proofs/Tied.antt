@@ -8,6 +8,10 @@ use denote.Ref.{now}
 use denote.Triple.Clauses.{AtExit}
 use borrow.Fn.Kinds.{PK, RK, Out, Dens, resT, endedOf}
 use Rattle.numbers.specs.declared.Put.{Put}
+use Rattle.numbers.proofs.byte_within.Kinds as byte-within
+use Rattle.numbers.proofs.byte_within.Reads as byte-within-reads
+use Rattle.numbers.proofs.count_within.Kinds as count-within
+use Rattle.numbers.proofs.count_within.Reads as count-within-reads
 use Rattle.numbers.proofs.digit.Kinds as digit
 use Rattle.numbers.proofs.digit.Reads as digit-reads
 use Rattle.numbers.proofs.Refusal.number.Kinds as number
@@ -61,3 +65,9 @@ read-groups-tied = tied read-groups.ps read-groups.r read-groups-reads.Post (λ 
 
 pub number-tied : Tied number.ps number.r number-reads.Post (λ κs x e. x)
 number-tied = tied number.ps number.r number-reads.Post (λ κs x e. x) _ (λ κs a x e p. p)
+
+pub byte-within-tied : Tied byte-within.ps byte-within.r byte-within-reads.Post (λ κs x e. x)
+byte-within-tied = tied byte-within.ps byte-within.r byte-within-reads.Post (λ κs x e. x) _ (λ κs a x e p. p)
+
+pub count-within-tied : Tied count-within.ps count-within.r count-within-reads.Post (λ κs x e. x)
+count-within-tied = tied count-within.ps count-within.r count-within-reads.Post (λ κs x e. x) _ (λ κs a x e p. p)

@@ -2,6 +2,7 @@
 ghost use mathlib.Core.Path.{_≡_};
 ghost use Prim.Native.Nat.{_+_, _-_, _≤_, _<_};
 ghost use lib.ListN.{length};
+ghost use Rattle.numbers.specs.Rules.{within};
 ghost use Rattle.numbers.specs.Decimal.{digitOf, digits, places, decimal, readDigits};
 ghost use Rattle.numbers.specs.Seven.{groups, groupAfter, readGroups, Begun};
 ghost use Rattle.numbers.specs.Put.{refusalNumber, written, writing};
@@ -30,6 +31,26 @@ impl Refusal {
 pub enum Put {
     Bytes(usize),
     Refused(Refusal),
+}
+
+// Is b low to high?
+pub fn byte_within(low: u8, high: u8, b: u8) -> bool
+    ensures { λ r. ⌜ r ≡ within low high b .test ⌝ }
+{
+    if b < low {
+        return false;
+    }
+    b <= high
+}
+
+// Is n low to high?
+pub fn count_within(low: u32, high: u32, n: u32) -> bool
+    ensures { λ r. ⌜ r ≡ within low high n .test ⌝ }
+{
+    if n < low {
+        return false;
+    }
+    n <= high
 }
 
 // The last digit of n, in ASCII.

@@ -4,9 +4,6 @@ use native.Mathlib.Omega.{arith}
 use borrow.Author.Needs.{needs}
 use Rattle.dispenser_frame.proofs.command.belongs.Statement.{statement}
 use Rattle.dispenser_frame.proofs.command.belongs.Tie as tie
-use Rattle.dispenser_frame.proofs.command.belongs.Reads as reads
-use Rattle.dispenser_frame.proofs.command.belongs.Lts as lts
-use Rattle.dispenser_frame.proofs.frame.count_within.Reads as count-within-reads
 
 count-within-requires : tie.Need-count-within-requires
 count-within-requires c κs = search needs

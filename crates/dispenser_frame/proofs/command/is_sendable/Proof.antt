@@ -7,10 +7,6 @@ use native.Mathlib.Omega.{arith}
 use borrow.Author.Needs.{needs}
 use Rattle.dispenser_frame.proofs.command.is_sendable.Statement.{statement}
 use Rattle.dispenser_frame.proofs.command.is_sendable.Tie as tie
-use Rattle.dispenser_frame.proofs.command.is_sendable.Reads as reads
-use Rattle.dispenser_frame.proofs.command.is_sendable.Lts as lts
-use Rattle.dispenser_frame.proofs.command.command_length.Reads as command-length-reads
-use Rattle.dispenser_frame.proofs.command.counts_fit.Reads as counts-fit-reads
 
 command-length-requires : tie.Need-command-length-requires
 command-length-requires c κs = search needs

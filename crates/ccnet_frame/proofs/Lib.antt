@@ -1,0 +1,9 @@
+-- The laws of `ccnet_frame`.
+pub mod Checks
+pub mod Laying
+pub mod Frames
+pub mod Planned
+pub mod Trips
+pub mod Exact
+pub mod Classes
+pub mod Tied

@@ -1,0 +1,43 @@
+-- What is promised of CCNET frames: the statements, proved in proofs/Trips.antt, proofs/Exact.antt and proofs/Classes.antt.
+use Prim.Native.Nat.{ℕ, _≤_}
+use mathlib.Core.Path.{_≡_}
+use mathlib.Core.List.{List, []}
+use mathlib.Core.Logic.{_↔_}
+use lib.ListN.{length, getD, take}
+use Rattle.numbers.specs.Rules.{Exactly}
+use Rattle.numbers.specs.Put.{written, refused, laid}
+use Rattle.numbers.specs.Promises.{Bytes}
+use Rattle.numbers.specs.declared.Put.the-variants.{Bytes as Put}
+use Rattle.ccnet_frame.specs.Frame.{frame, frameRefusals, writeFrame, faults, judgeFrame, bodyOf}
+use Rattle.ccnet_frame.specs.Class.{classOf, classBytes, isListed}
+use Rattle.ccnet_frame.specs.declared.frame.Fault.{Fault}
+use Rattle.ccnet_frame.specs.declared.frame.Judged.the-variants.{Good, Refused}
+use Rattle.ccnet_frame.specs.declared.class.Class.{Class}
+use Rattle.ccnet_frame.specs.declared.class.Class.the-variants.{Unknown}
+
+-- reading undoes writing, for every address and every body: what was put is good, with its address and its body. And whatever is good,
+-- written again with its address and its body, is the same bytes. A command's body is its code and data
+pub record FrameTrips : Type 0 where
+  pub good : (address : ℕ) (body room after : List ℕ) (n : ℕ) → writeFrame address body room ≡ written (Put n) after
+      → judgeFrame (take n after) ≡ Good address
+  pub back : (address : ℕ) (body room after : List ℕ) (n : ℕ) → writeFrame address body room ≡ written (Put n) after
+      → bodyOf (take n after) ≡ body
+  pub again : (s room : List ℕ) (address : ℕ) → Bytes s → judgeFrame s ≡ Good address → length s ≤ length room
+      → writeFrame address (bodyOf s) room ≡ laid s room
+
+-- a good body is never empty, and a refused one always is: an empty part means refused
+pub record BodyTells : Type 0 where
+  pub good : (s : List ℕ) (address : ℕ) → judgeFrame s ≡ Good address → (bodyOf s ≡ [] → ⊥)
+  pub empty : (s : List ℕ) (fault : Fault) → judgeFrame s ≡ Refused fault → bodyOf s ≡ []
+
+-- "Given exactly when": each number exactly when its condition is the first that holds, in 01's order
+pub record ExactlyWhen : Type 0 where
+  pub write : (address : ℕ) (body room : List ℕ)
+      → Exactly (frameRefusals address body room) (λ why. refused why room) (laid (frame address body) room) (writeFrame address body room)
+  pub read : (s : List ℕ) → Exactly (faults s) Refused (Good (getD s 1 0)) (judgeFrame s)
+
+-- every body falls in one class; a listed class is that of its bytes, and its bytes are the body; unknown is exactly the rest
+pub record Classes : Type 0 where
+  pub back : (c : Class) → isListed c .holds → classOf (classBytes c) ≡ c
+  pub again : (s : List ℕ) → (classOf s ≡ Unknown → ⊥) → isListed (classOf s) .holds × (classBytes (classOf s) ≡ s)
+  pub rest : (s : List ℕ) → (classOf s ≡ Unknown) ↔ ((c : Class) → isListed c .holds → s ≡ classBytes c → ⊥)

@@ -1,0 +1,17 @@
+// CCNET frames: the check; commands and answers written and read; the body handed back as a part of the caller's own bytes; and what an
+// answer's body says. Document 01, "CCNET frames".
+mod check;
+mod class;
+mod frame;
+
+pub use check::check_of;
+pub use class::Class;
+pub use class::classify;
+pub use frame::Fault;
+pub use frame::Judged;
+pub use frame::body;
+pub use frame::judge;
+pub use frame::write_ack;
+pub use frame::write_answer;
+pub use frame::write_command;
+pub use frame::write_nak;
