@@ -1,0 +1,35 @@
+-- `bench_sheet::sheet::word` meets its contract: each word starts within the line. Assumes nothing.
+use Prim.Native.Nat.{_≤_, _-_}
+use lib.ListN.{length}
+use borrow.Author.Needs.{needs}
+use Rattle.bench_sheet.proofs.sheet.word.Statement.{statement}
+use Rattle.bench_sheet.proofs.sheet.word.Tie as tie
+
+abbrev Inv-loop : tie.InvT-loop
+Inv-loop line before at₀ k₀ at k = (k ≤ before) × (at ≤ length line)
+
+abbrev μ-loop : tie.MeasureT-loop
+μ-loop line before at₀ k₀ at k = before - k
+
+loop-holds : tie.Need-loop-holds Inv-loop μ-loop
+loop-holds c = search needs
+
+past-requires : tie.Need-past-requires Inv-loop μ-loop
+past-requires c κs = search needs
+
+add-k : tie.Need-add-k Inv-loop μ-loop
+add-k c = search needs
+
+loop-less : tie.Need-loop-less Inv-loop μ-loop
+loop-less c = search needs
+
+loop-again : tie.Need-loop-again Inv-loop μ-loop
+loop-again c = search needs
+
+returns : tie.Need-returns Inv-loop μ-loop
+returns c = search needs
+
+pub word-spec : {M : Type 1} → statement M
+word-spec =
+    tie.close
+    (tie.spec Inv-loop μ-loop loop-holds past-requires add-k loop-less loop-again returns)

@@ -1,0 +1,2 @@
+-- The starred lines of the bench sheet.
+pub mod Sheet

@@ -1,0 +1,211 @@
+// Lines about the validator's frames and what its answers say.
+//
+//     validator frame, room 300: address 03h body 250
+//     validator command, room 300: address 03h code 33h data 0
+//     validator ACK, room 6:
+//     validator NAK, room 6:
+//     validator reads, poll: 02 03 06 33 DA 81
+//     validator turns each bit, poll: 02 03 06 33 DA 81
+//     validator says, stacked: 81 17
+//
+// A body or data of so many bytes is so many times 41h.
+ghost use Prim.Native.Nat.{_≤_};
+use crate::print;
+use crate::room;
+use crate::sheet;
+use ccnet_frame::Class;
+use ccnet_frame::Judged;
+use numbers::Put;
+
+// What the line's second word tells, by its first letter.
+pub(crate) fn run(line: &[u8]) {
+    sheet::print_label(line);
+    let letter = sheet::letter(line, 1);
+    if letter == b'r' {
+        read(line);
+        return;
+    }
+    if letter == b't' {
+        turn(line);
+        return;
+    }
+    if letter == b's' {
+        say(line);
+        return;
+    }
+    write(line, letter);
+}
+
+fn write(line: &[u8], letter: u8) {
+    let mut lent = room::long();
+    write_in(line, letter, &mut lent);
+}
+
+// Writes what the line gives to a room of the size that it gives. What was put is read back.
+fn write_in(line: &[u8], letter: u8, lent: &mut [u8]) {
+    let end = room::at_most(sheet::number(line, 3) as usize, lent);
+    let answered = put(line, letter, &mut lent[0..end]);
+    let used = room::print_put(answered, lent);
+    if 0 < used {
+        print::text(b"   ");
+        let end = room::at_most(used, lent);
+        found(&lent[0..end]);
+    }
+}
+
+fn put(line: &[u8], letter: u8, lent: &mut [u8]) -> Put {
+    if letter == b'A' {
+        return ccnet_frame::write_ack(lent);
+    }
+    if letter == b'N' {
+        return ccnet_frame::write_nak(lent);
+    }
+    if letter == b'f' {
+        return put_answer(sheet::byte(line, 5), sheet::number(line, 7), lent);
+    }
+    put_command(
+        sheet::byte(line, 5),
+        sheet::byte(line, 7),
+        sheet::number(line, 9),
+        lent,
+    )
+}
+
+fn put_answer(address: u8, count: u32, lent: &mut [u8]) -> Put {
+    print::form(b" address $ body #", &[address as u32, count]);
+    let body = [0x41u8; 300];
+    let n = room::at_most(count as usize, &body);
+    ccnet_frame::write_answer(address, &body[0..n], lent)
+}
+
+fn put_command(address: u8, code: u8, count: u32, lent: &mut [u8]) -> Put {
+    print::form(
+        b" address $ code $ data #",
+        &[address as u32, code as u32, count],
+    );
+    let given = [0x41u8; 300];
+    let n = room::at_most(count as usize, &given);
+    ccnet_frame::write_command(address, code, &given[0..n], lent)
+}
+
+fn read(line: &[u8]) {
+    let mut store = room::long();
+    let n = sheet::frame(line, &mut store);
+    read_in(n, &store);
+}
+
+// Reads the first n bytes of the store.
+fn read_in(n: usize, store: &[u8]) {
+    let end = room::at_most(n, store);
+    print::bytes(&store[0..end]);
+    print::text(b" ->");
+    found(&store[0..end]);
+}
+
+// What reading finds: the address and the body.
+fn found(s: &[u8]) {
+    match ccnet_frame::judge(s) {
+        Judged::Good { address } => print::form(b" address $", &[address as u32]),
+        Judged::Refused(why) => print::form(b" refused #", &[why.number() as u32]),
+    }
+    print_body(ccnet_frame::body(s));
+}
+
+fn print_body(body: &[u8]) {
+    print::text(b", body of ");
+    print::number(body.len());
+    print::text(b":");
+    print::bytes(body);
+    print::text(b"\n");
+}
+
+// The frame with each of its bits turned, one at a time.
+fn turn(line: &[u8]) {
+    let mut store = [0u8; 32];
+    let n = sheet::frame(line, &mut store);
+    turn_in(n, &mut store);
+}
+
+fn turn_in(n: usize, store: &mut [u8]) {
+    let end = room::at_most(n, store);
+    print::bytes(&store[0..end]);
+    print::form(b" -> refused #\n", &[turn_each(end, store)]);
+}
+
+// How many of the frames with one bit turned are refused.
+fn turn_each(end: usize, store: &mut [u8]) -> u32 {
+    let mut refused: u32 = 0;
+    let mut i: usize = 0;
+    while i < end {
+        refused = refused % 65_536 + turn_byte(i, end, store);
+        i += 1;
+    }
+    refused
+}
+
+// How many of the eight frames with one bit of a byte turned are refused.
+fn turn_byte(i: usize, end: usize, store: &mut [u8]) -> u32
+    ensures { λ r. ⌜ r ≤ 8 ⌝ }
+{
+    let mut refused: u32 = 0;
+    let mut k: u32 = 0;
+    let mut bit: u8 = 1;
+    while k < 8 {
+        refused += turned(i, bit, end, store);
+        bit = bit % 128 * 2;
+        k += 1;
+    }
+    refused
+}
+
+// 1 where the frame with that bit of that byte turned is refused. The byte is put back.
+fn turned(i: usize, bit: u8, end: usize, store: &mut [u8]) -> u32
+    ensures { λ r. ⌜ r ≤ 1 ⌝ }
+{
+    if store.len() <= i {
+        return 0;
+    }
+    let was = store[i];
+    store[i] = was ^ bit;
+    let found = is_refused(end, store);
+    store[i] = was;
+    found
+}
+
+fn is_refused(end: usize, store: &[u8]) -> u32
+    ensures { λ r. ⌜ r ≤ 1 ⌝ }
+{
+    let n = room::at_most(end, store);
+    match ccnet_frame::judge(&store[0..n]) {
+        Judged::Good { address: _ } => 0,
+        Judged::Refused(_) => 1,
+    }
+}
+
+fn say(line: &[u8]) {
+    let mut store = [0u8; 32];
+    let n = sheet::frame(line, &mut store);
+    say_in(n, &store);
+}
+
+fn say_in(n: usize, store: &[u8]) {
+    let end = room::at_most(n, store);
+    print::bytes(&store[0..end]);
+    print_class(ccnet_frame::classify(&store[0..end]));
+}
+
+fn print_class(class: Class) {
+    match class {
+        Class::Ack => print::text(b" -> ACK\n"),
+        Class::Nak => print::text(b" -> NAK\n"),
+        Class::Illegal => print::text(b" -> illegal command\n"),
+        Class::State(b) => print::form(b" -> state $\n", &[b as u32]),
+        Class::Busy(b) => print::form(b" -> busy $\n", &[b as u32]),
+        Class::Rejecting(b) => print::form(b" -> rejecting $\n", &[b as u32]),
+        Class::Failing(b) => print::form(b" -> failing $\n", &[b as u32]),
+        Class::Escrow(b) => print::form(b" -> escrow of type #\n", &[b as u32]),
+        Class::Stacked(b) => print::form(b" -> stacked type #\n", &[b as u32]),
+        Class::Returned(b) => print::form(b" -> returned type #\n", &[b as u32]),
+        Class::Unknown => print::text(b" -> unknown\n"),
+    }
+}

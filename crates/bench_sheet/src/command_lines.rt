@@ -1,0 +1,55 @@
+// Lines about commands.
+//
+//     write command, room 24: 45h upper 10 lower 0
+//     read command, five bytes: 04 50 02 44 03
+//     count codes that can be sent with upper 0 lower 0
+use crate::print;
+use crate::sheet;
+use dispenser_frame::CommandRead;
+use dispenser_frame::is_sendable;
+use numbers::Put;
+
+// A command's code and counts.
+fn show(code: u8, upper: u32, lower: u32) {
+    print::form(b" $ upper # lower #", &[code as u32, upper, lower]);
+}
+
+pub(crate) fn show_given(line: &[u8]) {
+    show(
+        sheet::byte(line, 4),
+        sheet::number(line, 6),
+        sheet::number(line, 8),
+    );
+}
+
+pub(crate) fn put(line: &[u8], room: &mut [u8]) -> Put {
+    let code = sheet::byte(line, 4);
+    let upper = sheet::number(line, 6);
+    let lower = sheet::number(line, 8);
+    dispenser_frame::write_command(code, upper, lower, room)
+}
+
+// What reading a command finds.
+pub(crate) fn found(s: &[u8]) {
+    match dispenser_frame::read_command(s) {
+        CommandRead::Read { code, upper, lower } => {
+            print::text(b" reads as");
+            show(code, upper, lower);
+            print::text(b"\n");
+        }
+        CommandRead::Refused(why) => print::refused(why.number()),
+    }
+}
+
+// How many of the 256 codes can be sent with those counts.
+pub(crate) fn codes(upper: u32, lower: u32) -> usize {
+    let mut n: usize = 0;
+    let mut code: u32 = 0;
+    while code < 256 {
+        if is_sendable(code as u8, upper, lower) {
+            n += 1;
+        }
+        code += 1;
+    }
+    n
+}

@@ -1,0 +1,38 @@
+// Lines about numbers.
+//
+//     write groups, room 24: 1000
+//     read groups, 0 in two groups: 80 00
+//     write decimal, room 24: 10
+//     write two-digits, room 2: 5
+//     read two-digits, five: 30 35
+use crate::print;
+use numbers::Number;
+use numbers::Put;
+use numbers::Seven;
+
+// The digits of a count fill their room.
+pub(crate) fn put_digits(n: u32, room: &mut [u8]) -> Put {
+    numbers::put_digits(n, room);
+    Put::Bytes(room.len())
+}
+
+// What reading a number in groups of seven bits finds.
+pub(crate) fn groups(s: &[u8]) {
+    match numbers::read_groups(s) {
+        Seven::Value { number, used } => {
+            print::form(b" reads as #, length ", &[number]);
+            print::number(used);
+            print::text(b"\n");
+        }
+        Seven::Bad => print::refused(21),
+        Seven::Cut => print::refused(22),
+    }
+}
+
+// What reading digits finds.
+pub(crate) fn digits(s: &[u8]) {
+    match numbers::read_digits(s) {
+        Number::Of(n) => print::form(b" reads as #\n", &[n]),
+        Number::NoNumber => print::text(b" no number\n"),
+    }
+}

@@ -1,0 +1,19 @@
+-- `dispenser::account::Account::refuse` meets its contract. Assumes nothing.
+use Rattle.dispenser.specs.Account.{accountRefused}
+use native.Mathlib.Omega.{arith}
+use borrow.Author.Needs.{needs}
+use Rattle.dispenser.proofs.account.Account.refuse.Statement.{statement}
+use Rattle.dispenser.proofs.account.Account.refuse.Tie as tie
+
+refuse-requires : tie.Need-refuse-requires
+refuse-requires c κs = search needs
+
+refuse-requires-2 : tie.Need-refuse-requires-2
+refuse-requires-2 c κs = search needs
+
+returns : tie.Need-returns
+unfolding accountRefused
+returns c = rw (c .before .refuse .ensures, c .refuse2 .ensures)
+
+pub refuse-spec : {M : Type 1} → statement M
+refuse-spec = tie.close (tie.spec refuse-requires refuse-requires-2 returns)

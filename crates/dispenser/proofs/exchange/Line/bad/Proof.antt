@@ -1,0 +1,31 @@
+-- `dispenser::exchange::Line::bad` meets its contract. Assumes nothing.
+use borrow.Author.Tests.{lt-ltb, le-ltb, eq-eqb, ne-eqb}
+use Rattle.dispenser.specs.Exchange.{badFrame}
+use native.Mathlib.Omega.{arith}
+use borrow.Author.Needs.{needs}
+use Rattle.dispenser.proofs.exchange.Line.bad.Statement.{statement}
+use Rattle.dispenser.proofs.exchange.Line.bad.Tie as tie
+
+sub-if1 : tie.Need-sub-if1
+sub-if1 c = search needs
+
+add-starting : tie.Need-add-starting
+add-starting c = search needs
+
+starting-requires : tie.Need-starting-requires
+starting-requires c κs = search needs
+
+returns : tie.Need-returns
+unfolding badFrame
+returns c = simp (c .starting .ensures, lt-ltb _ _ (c .before .before .if1 .taken))
+
+closed-requires : tie.Need-closed-requires
+closed-requires c κs = search needs
+
+returns-2 : tie.Need-returns-2
+unfolding badFrame
+returns-2 c = simp (c .closed .ensures, le-ltb _ _ (c .before .if1 .left))
+
+pub bad-spec : {M : Type 1} → statement M
+bad-spec =
+    tie.close (tie.spec sub-if1 add-starting starting-requires returns closed-requires returns-2)

@@ -1,0 +1,14 @@
+-- `dispenser::exchange::Line::lost` meets its contract. Assumes nothing.
+use native.Mathlib.Omega.{arith}
+use borrow.Author.Needs.{needs}
+use Rattle.dispenser.proofs.exchange.Line.lost.Statement.{statement}
+use Rattle.dispenser.proofs.exchange.Line.lost.Tie as tie
+
+closed-requires : tie.Need-closed-requires
+closed-requires c κs = search needs
+
+returns : tie.Need-returns
+returns c = rw (c .closed .ensures)
+
+pub lost-spec : {M : Type 1} → statement M
+lost-spec = tie.close (tie.spec closed-requires returns)

@@ -1,0 +1,54 @@
+-- `dispenser::session::close` meets its contract, closing by closing. Assumes nothing.
+use native.Mathlib.Omega.{arith}
+use borrow.Author.Needs.{needs}
+use Rattle.dispenser.proofs.session.close.Statement.{statement}
+use Rattle.dispenser.proofs.session.close.Tie as tie
+
+enum-told : tie.Need-enum-told
+enum-told c = search needs
+
+enum-known-closing : tie.Need-enum-known-closing
+enum-known-closing c = search needs
+
+answered-requires : tie.Need-answered-requires
+answered-requires c κs = search needs
+
+enum-told-2 : tie.Need-enum-told-2
+enum-told-2 c = search needs
+
+refuse-requires : tie.Need-refuse-requires
+refuse-requires c κs = search needs
+
+enum-told-3 : tie.Need-enum-told-3
+enum-told-3 c = search needs
+
+lose-requires : tie.Need-lose-requires
+lose-requires c κs = search needs
+
+returns : tie.Need-returns
+returns c = search needs
+
+returns-2 : tie.Need-returns-2
+returns-2 c = rw (c .before .before .closing .given .1) (c .answered .ensures)
+
+returns-3 : tie.Need-returns-3
+returns-3 c = rw (c .before .enum-told2 .given .1) (c .refuse .ensures)
+
+returns-4 : tie.Need-returns-4
+returns-4 c = rw (c .before .enum-told3 .given .1) (c .lose .ensures)
+
+pub close-spec : {M : Type 1} → statement M
+close-spec =
+    tie.close
+    (tie.spec
+    enum-told
+    enum-known-closing
+    answered-requires
+    enum-told-2
+    refuse-requires
+    enum-told-3
+    lose-requires
+    returns
+    returns-2
+    returns-3
+    returns-4)
