@@ -9,8 +9,6 @@
 //     read answer, five bytes: 01 50 02 44 30
 //     count bytes of the answer to 44h
 //     count listed error bytes
-use crate::print;
-use crate::sheet;
 use dispenser_frame::Answer;
 use dispenser_frame::AnswerRead;
 use dispenser_frame::Cassette;
@@ -81,6 +79,7 @@ fn tested(line: &[u8], cassette: Cassette) -> Answer {
     }
 }
 
+// Writes the answer that a line gives.
 pub(crate) fn put(line: &[u8], room: &mut [u8]) -> Put {
     dispenser_frame::write_answer(given(line), room)
 }
@@ -89,11 +88,11 @@ pub(crate) fn put(line: &[u8], room: &mut [u8]) -> Put {
 pub(crate) fn found(s: &[u8]) {
     match dispenser_frame::read_answer(s) {
         AnswerRead::Read { answer, listed } => {
-            print::text(b" reads as");
+            sheet::print_text(b" reads as");
             show(answer);
             print_listed(listed);
         }
-        AnswerRead::Refused(why) => print::refused(why.number()),
+        AnswerRead::Refused(why) => sheet::print_fault(why.number()),
     }
 }
 
@@ -101,7 +100,7 @@ pub(crate) fn found(s: &[u8]) {
 pub(crate) fn show(answer: Answer) {
     let code = dispenser_frame::code_of(answer) as u32;
     match answer {
-        Answer::Purged { error } => print::form(b" $ error $", &[code, error as u32]),
+        Answer::Purged { error } => sheet::print_form(b" $ error $", &[code, error as u32]),
         Answer::PaidOne {
             cassette: _,
             chk,
@@ -109,7 +108,7 @@ pub(crate) fn show(answer: Answer) {
             error,
             state,
             rejects,
-        } => print::form(
+        } => sheet::print_form(
             b" $ CHK # EXIT # error $ state $ rejects #",
             &[code, chk, exit, error as u32, state as u32, rejects],
         ),
@@ -123,7 +122,7 @@ pub(crate) fn show(answer: Answer) {
             lower_state,
             upper_rejects,
             lower_rejects,
-        } => print::form(
+        } => sheet::print_form(
             b" $ upper CHK # EXIT # lower CHK # EXIT # error $ upper state $ lower state $ upper rejects # lower rejects #",
             &[
                 code,
@@ -144,7 +143,7 @@ pub(crate) fn show(answer: Answer) {
             error,
             state,
             rejects,
-        } => print::form(
+        } => sheet::print_form(
             b" $ CHK # error $ state $ rejects #",
             &[code, chk, error as u32, state as u32, rejects],
         ),
@@ -152,7 +151,7 @@ pub(crate) fn show(answer: Answer) {
             error,
             sensor0,
             sensor1,
-        } => print::form(
+        } => sheet::print_form(
             b" $ error $ sensor 0 $ sensor 1 $",
             &[code, error as u32, sensor0 as u32, sensor1 as u32],
         ),
@@ -161,9 +160,9 @@ pub(crate) fn show(answer: Answer) {
 
 fn print_listed(listed: bool) {
     if listed {
-        print::text(b", error listed\n");
+        sheet::print_text(b", error listed\n");
     } else {
-        print::text(b", error unlisted\n");
+        sheet::print_text(b", error unlisted\n");
     }
 }
 

@@ -10,9 +10,6 @@
 //
 // A body or data of so many bytes is so many times 41h.
 ghost use Prim.Native.Nat.{_≤_};
-use crate::print;
-use crate::room;
-use crate::sheet;
 use ccnet_frame::Class;
 use ccnet_frame::Judged;
 use numbers::Put;
@@ -37,18 +34,18 @@ pub(crate) fn run(line: &[u8]) {
 }
 
 fn write(line: &[u8], letter: u8) {
-    let mut lent = room::long();
+    let mut lent = sheet::long_room();
     write_in(line, letter, &mut lent);
 }
 
 // Writes what the line gives to a room of the size that it gives. What was put is read back.
 fn write_in(line: &[u8], letter: u8, lent: &mut [u8]) {
-    let end = room::at_most(sheet::number(line, 3) as usize, lent);
+    let end = sheet::at_most(sheet::number(line, 3) as usize, lent);
     let answered = put(line, letter, &mut lent[0..end]);
-    let used = room::print_put(answered, lent);
+    let used = sheet::print_put(answered, lent);
     if 0 < used {
-        print::text(b"   ");
-        let end = room::at_most(used, lent);
+        sheet::print_text(b"   ");
+        let end = sheet::at_most(used, lent);
         found(&lent[0..end]);
     }
 }
@@ -72,51 +69,51 @@ fn put(line: &[u8], letter: u8, lent: &mut [u8]) -> Put {
 }
 
 fn put_answer(address: u8, count: u32, lent: &mut [u8]) -> Put {
-    print::form(b" address $ body #", &[address as u32, count]);
+    sheet::print_form(b" address $ body #", &[address as u32, count]);
     let body = [0x41u8; 300];
-    let n = room::at_most(count as usize, &body);
+    let n = sheet::at_most(count as usize, &body);
     ccnet_frame::write_answer(address, &body[0..n], lent)
 }
 
 fn put_command(address: u8, code: u8, count: u32, lent: &mut [u8]) -> Put {
-    print::form(
+    sheet::print_form(
         b" address $ code $ data #",
         &[address as u32, code as u32, count],
     );
     let given = [0x41u8; 300];
-    let n = room::at_most(count as usize, &given);
+    let n = sheet::at_most(count as usize, &given);
     ccnet_frame::write_command(address, code, &given[0..n], lent)
 }
 
 fn read(line: &[u8]) {
-    let mut store = room::long();
+    let mut store = sheet::long_room();
     let n = sheet::frame(line, &mut store);
     read_in(n, &store);
 }
 
 // Reads the first n bytes of the store.
 fn read_in(n: usize, store: &[u8]) {
-    let end = room::at_most(n, store);
-    print::bytes(&store[0..end]);
-    print::text(b" ->");
+    let end = sheet::at_most(n, store);
+    sheet::print_bytes(&store[0..end]);
+    sheet::print_text(b" ->");
     found(&store[0..end]);
 }
 
 // What reading finds: the address and the body.
 fn found(s: &[u8]) {
     match ccnet_frame::judge(s) {
-        Judged::Good { address } => print::form(b" address $", &[address as u32]),
-        Judged::Refused(why) => print::form(b" refused #", &[why.number() as u32]),
+        Judged::Good { address } => sheet::print_form(b" address $", &[address as u32]),
+        Judged::Refused(why) => sheet::print_form(b" refused #", &[why.number() as u32]),
     }
     print_body(ccnet_frame::body(s));
 }
 
 fn print_body(body: &[u8]) {
-    print::text(b", body of ");
-    print::number(body.len());
-    print::text(b":");
-    print::bytes(body);
-    print::text(b"\n");
+    sheet::print_text(b", body of ");
+    sheet::print_number(body.len());
+    sheet::print_text(b":");
+    sheet::print_bytes(body);
+    sheet::print_text(b"\n");
 }
 
 // The frame with each of its bits turned, one at a time.
@@ -127,9 +124,9 @@ fn turn(line: &[u8]) {
 }
 
 fn turn_in(n: usize, store: &mut [u8]) {
-    let end = room::at_most(n, store);
-    print::bytes(&store[0..end]);
-    print::form(b" -> refused #\n", &[turn_each(end, store)]);
+    let end = sheet::at_most(n, store);
+    sheet::print_bytes(&store[0..end]);
+    sheet::print_form(b" -> refused #\n", &[turn_each(end, store)]);
 }
 
 // How many of the frames with one bit turned are refused.
@@ -175,7 +172,7 @@ fn turned(i: usize, bit: u8, end: usize, store: &mut [u8]) -> u32
 fn is_refused(end: usize, store: &[u8]) -> u32
     ensures { λ r. ⌜ r ≤ 1 ⌝ }
 {
-    let n = room::at_most(end, store);
+    let n = sheet::at_most(end, store);
     match ccnet_frame::judge(&store[0..n]) {
         Judged::Good { address: _ } => 0,
         Judged::Refused(_) => 1,
@@ -189,23 +186,23 @@ fn say(line: &[u8]) {
 }
 
 fn say_in(n: usize, store: &[u8]) {
-    let end = room::at_most(n, store);
-    print::bytes(&store[0..end]);
+    let end = sheet::at_most(n, store);
+    sheet::print_bytes(&store[0..end]);
     print_class(ccnet_frame::classify(&store[0..end]));
 }
 
 fn print_class(class: Class) {
     match class {
-        Class::Ack => print::text(b" -> ACK\n"),
-        Class::Nak => print::text(b" -> NAK\n"),
-        Class::Illegal => print::text(b" -> illegal command\n"),
-        Class::State(b) => print::form(b" -> state $\n", &[b as u32]),
-        Class::Busy(b) => print::form(b" -> busy $\n", &[b as u32]),
-        Class::Rejecting(b) => print::form(b" -> rejecting $\n", &[b as u32]),
-        Class::Failing(b) => print::form(b" -> failing $\n", &[b as u32]),
-        Class::Escrow(b) => print::form(b" -> escrow of type #\n", &[b as u32]),
-        Class::Stacked(b) => print::form(b" -> stacked type #\n", &[b as u32]),
-        Class::Returned(b) => print::form(b" -> returned type #\n", &[b as u32]),
-        Class::Unknown => print::text(b" -> unknown\n"),
+        Class::Ack => sheet::print_text(b" -> ACK\n"),
+        Class::Nak => sheet::print_text(b" -> NAK\n"),
+        Class::Illegal => sheet::print_text(b" -> illegal command\n"),
+        Class::State(b) => sheet::print_form(b" -> state $\n", &[b as u32]),
+        Class::Busy(b) => sheet::print_form(b" -> busy $\n", &[b as u32]),
+        Class::Rejecting(b) => sheet::print_form(b" -> rejecting $\n", &[b as u32]),
+        Class::Failing(b) => sheet::print_form(b" -> failing $\n", &[b as u32]),
+        Class::Escrow(b) => sheet::print_form(b" -> escrow of type #\n", &[b as u32]),
+        Class::Stacked(b) => sheet::print_form(b" -> stacked type #\n", &[b as u32]),
+        Class::Returned(b) => sheet::print_form(b" -> returned type #\n", &[b as u32]),
+        Class::Unknown => sheet::print_text(b" -> unknown\n"),
     }
 }

@@ -3,17 +3,16 @@
 //     write command, room 24: 45h upper 10 lower 0
 //     read command, five bytes: 04 50 02 44 03
 //     count codes that can be sent with upper 0 lower 0
-use crate::print;
-use crate::sheet;
 use dispenser_frame::CommandRead;
 use dispenser_frame::is_sendable;
 use numbers::Put;
 
 // A command's code and counts.
 fn show(code: u8, upper: u32, lower: u32) {
-    print::form(b" $ upper # lower #", &[code as u32, upper, lower]);
+    sheet::print_form(b" $ upper # lower #", &[code as u32, upper, lower]);
 }
 
+// Those that a line gives.
 pub(crate) fn show_given(line: &[u8]) {
     show(
         sheet::byte(line, 4),
@@ -22,6 +21,7 @@ pub(crate) fn show_given(line: &[u8]) {
     );
 }
 
+// Writes the command that a line gives.
 pub(crate) fn put(line: &[u8], room: &mut [u8]) -> Put {
     let code = sheet::byte(line, 4);
     let upper = sheet::number(line, 6);
@@ -33,11 +33,11 @@ pub(crate) fn put(line: &[u8], room: &mut [u8]) -> Put {
 pub(crate) fn found(s: &[u8]) {
     match dispenser_frame::read_command(s) {
         CommandRead::Read { code, upper, lower } => {
-            print::text(b" reads as");
+            sheet::print_text(b" reads as");
             show(code, upper, lower);
-            print::text(b"\n");
+            sheet::print_text(b"\n");
         }
-        CommandRead::Refused(why) => print::refused(why.number()),
+        CommandRead::Refused(why) => sheet::print_fault(why.number()),
     }
 }
 

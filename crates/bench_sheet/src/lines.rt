@@ -4,13 +4,11 @@
 //     write command, room 24: 45h upper 10 lower 0
 //     read command, five bytes: 04 50 02 44 03
 //
-// What is written behind its colon is not the line's text but the values and bytes that the call was given.
+// What is written behind the colon is not the line's text but the values or bytes that the call was given. A part that joins the sheet
+// adds a kind here, and a module that puts what a line gives and says what its reader found.
 use crate::answer_lines;
 use crate::command_lines;
 use crate::numbers_lines;
-use crate::print;
-use crate::room;
-use crate::sheet;
 use numbers::Put;
 
 // What is written or read.
@@ -40,24 +38,24 @@ fn kind_of(line: &[u8]) -> Kind {
     Kind::Answer
 }
 
-// Writes what the line gives to a room of the size that it gives. What was put is read back.
+// Writes the values to a room of the size given. What was put is read back.
 pub(crate) fn write(line: &[u8]) {
-    let mut room = room::fresh();
+    let mut room = sheet::short_room();
     sheet::print_label(line);
     write_in(kind_of(line), line, &mut room);
 }
 
 fn write_in(kind: Kind, line: &[u8], room: &mut [u8]) {
     show(kind, line);
-    let end = room::at_most(sheet::number(line, 3) as usize, room);
+    let end = sheet::at_most(sheet::number(line, 3) as usize, room);
     let answered = put(kind, line, &mut room[0..end]);
-    let used = room::print_put(answered, room);
+    let used = sheet::print_put(answered, room);
     back(kind, used, room);
 }
 
 fn show(kind: Kind, line: &[u8]) {
     match kind {
-        Kind::Groups | Kind::Decimal | Kind::Digits => print::form(
+        Kind::Groups | Kind::Decimal | Kind::Digits => sheet::print_form(
             b" #",
             &[sheet::number(line, 4)],
         ),
@@ -83,8 +81,8 @@ fn back(kind: Kind, used: usize, room: &[u8]) {
         Kind::Decimal => {}
         _ => {
             if 0 < used {
-                print::text(b"   ");
-                let end = room::at_most(used, room);
+                sheet::print_text(b"   ");
+                let end = sheet::at_most(used, room);
                 found(kind, &room[0..end]);
             }
         }
@@ -101,9 +99,9 @@ pub(crate) fn read(line: &[u8]) {
 
 // Reads the first n bytes of the store.
 fn read_in(kind: Kind, n: usize, store: &[u8]) {
-    let end = room::at_most(n, store);
-    print::bytes(&store[0..end]);
-    print::text(b" ->");
+    let end = sheet::at_most(n, store);
+    sheet::print_bytes(&store[0..end]);
+    sheet::print_text(b" ->");
     found(kind, &store[0..end]);
 }
 
@@ -123,9 +121,9 @@ fn found(kind: Kind, s: &[u8]) {
 //     count listed error bytes:
 pub(crate) fn count(line: &[u8]) {
     sheet::print_label(line);
-    print::text(b" ");
-    print::number(counted(line));
-    print::text(b"\n");
+    sheet::print_text(b" ");
+    sheet::print_number(counted(line));
+    sheet::print_text(b"\n");
 }
 
 fn counted(line: &[u8]) -> usize {

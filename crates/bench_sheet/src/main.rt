@@ -1,6 +1,7 @@
-// The bench sheet of document 01, run. The sheet is what the program reads, the file `stdin`: a line that begins with write, read, count
-// or validator is tried and written with what came of it; any other line, as the sentence of 01 that the next lines try, is written as it stands.
-// The file `stdout` has what the run must write, made from 01 by hand. The starred lines are proved besides, in specs/Sheet.antt.
+// The bench sheet of document 01, run. The sheet is what the program reads, the file `stdin`, of at most 65,536 bytes: a line that begins
+// with write, read, count or validator is tried, and written with what came of it; any other line, as the sentence of 01 that the next ones
+// try, is written as it stands. The file `stdout` has what the run must write, made from 01 and 003 and not from a run. The starred lines
+// are proved besides, in specs/Sheet.antt.
 //
 // The lines are data and not code, so that the sheet can grow and the proofs do not.
 mod answer_lines;
@@ -8,9 +9,6 @@ mod ccnet_lines;
 mod command_lines;
 mod lines;
 mod numbers_lines;
-mod print;
-mod room;
-mod sheet;
 
 fn main() {
     let mut store = io::large_buffer();
@@ -22,7 +20,7 @@ fn main() {
 fn each(all: &[u8]) {
     let mut at: usize = 0;
     while at < all.len() {
-        let end = sheet::past(all, at, b'\n');
+        let end = sheet::line_end(all, at);
         one(&all[at..end]);
         at = end;
     }
@@ -47,5 +45,5 @@ fn one(line: &[u8]) {
         ccnet_lines::run(line);
         return;
     }
-    print::text(line);
+    sheet::print_text(line);
 }

@@ -5,7 +5,6 @@
 //     write decimal, room 24: 10
 //     write two-digits, room 2: 5
 //     read two-digits, five: 30 35
-use crate::print;
 use numbers::Number;
 use numbers::Put;
 use numbers::Seven;
@@ -20,19 +19,19 @@ pub(crate) fn put_digits(n: u32, room: &mut [u8]) -> Put {
 pub(crate) fn groups(s: &[u8]) {
     match numbers::read_groups(s) {
         Seven::Value { number, used } => {
-            print::form(b" reads as #, length ", &[number]);
-            print::number(used);
-            print::text(b"\n");
+            sheet::print_form(b" reads as #, length ", &[number]);
+            sheet::print_number(used);
+            sheet::print_text(b"\n");
         }
-        Seven::Bad => print::refused(21),
-        Seven::Cut => print::refused(22),
+        Seven::Bad => sheet::print_fault(21),
+        Seven::Cut => sheet::print_fault(22),
     }
 }
 
 // What reading digits finds.
 pub(crate) fn digits(s: &[u8]) {
     match numbers::read_digits(s) {
-        Number::Of(n) => print::form(b" reads as #\n", &[n]),
-        Number::NoNumber => print::text(b" no number\n"),
+        Number::Of(n) => sheet::print_form(b" reads as #\n", &[n]),
+        Number::NoNumber => sheet::print_text(b" no number\n"),
     }
 }

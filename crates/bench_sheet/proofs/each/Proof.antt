@@ -15,14 +15,14 @@ abbrev μ-loop : tie.MeasureT-loop
 loop-holds : tie.Need-loop-holds Inv-loop μ-loop
 loop-holds c = search needs
 
-past-requires : tie.Need-past-requires Inv-loop μ-loop
-past-requires c κs = search needs
+line-end-requires : tie.Need-line-end-requires Inv-loop μ-loop
+line-end-requires c κs = search needs
 
 sub-one : tie.Need-sub-one Inv-loop μ-loop
-sub-one c = search needs
+sub-one c = search (needs, c .line-end .ensures .1 (c .before .loop-test .taken))
 
 part-one-start : tie.Need-part-one-start Inv-loop μ-loop
-part-one-start c = search needs
+part-one-start c = search (needs, c .line-end .ensures .1 (c .before .loop-test .taken))
 
 part-one-end : tie.Need-part-one-end Inv-loop μ-loop
 part-one-end c = search needs
@@ -31,7 +31,7 @@ one-requires : tie.Need-one-requires Inv-loop μ-loop
 one-requires c κs = search needs
 
 loop-less : tie.Need-loop-less Inv-loop μ-loop
-loop-less c = omega (arith, c .before .before .past .ensures .1 .1 (c .before .before .before .loop-test .taken))
+loop-less c = omega (arith, c .before .before .line-end .ensures .1 (c .before .before .before .loop-test .taken))
 
 loop-again : tie.Need-loop-again Inv-loop μ-loop
 loop-again c = search needs
@@ -46,7 +46,7 @@ each-spec =
     Inv-loop
     μ-loop
     loop-holds
-    past-requires
+    line-end-requires
     sub-one
     part-one-start
     part-one-end

@@ -9,21 +9,21 @@ use numbers::Put;
 const FILL: u8 = 0xA5;
 
 // More than the longest frame, an answer of 21 bytes.
-pub(crate) fn fresh() -> [u8; 24]
+pub fn short_room() -> [u8; 24]
     ensures { λ r. ⌜ 24 ≡ length r ⌝ }
 {
     [FILL; 24]
 }
 
 // More than the longest CCNET frame, of 255 bytes.
-pub(crate) fn long() -> [u8; 300]
+pub fn long_room() -> [u8; 300]
     ensures { λ r. ⌜ 300 ≡ length r ⌝ }
 {
     [FILL; 300]
 }
 
 // n, but at most the length of the room.
-pub(crate) fn at_most(n: usize, room: &[u8]) -> usize
+pub fn at_most(n: usize, room: &[u8]) -> usize
     ensures { λ r. ⌜ r ≤ n ⌝ }
     ensures { λ r. ⌜ r ≤ length (now (room .entry)) ⌝ }
 {
@@ -31,7 +31,7 @@ pub(crate) fn at_most(n: usize, room: &[u8]) -> usize
 }
 
 // What a plain writer answered, the bytes that it put, and whether every other byte of the room is what it was. Says how many bytes it put.
-pub(crate) fn print_put(put: Put, room: &[u8]) -> usize {
+pub fn print_put(put: Put, room: &[u8]) -> usize {
     match put {
         Put::Bytes(n) => print_laid(n, room),
         Put::Refused(why) => print_refused(why.number(), room),
@@ -39,27 +39,27 @@ pub(crate) fn print_put(put: Put, room: &[u8]) -> usize {
 }
 
 fn print_laid(n: usize, room: &[u8]) -> usize {
-    print::text(b" -> length ");
-    print::number(n);
-    print::text(b":");
+    print::print_text(b" -> length ");
+    print::print_number(n);
+    print::print_text(b":");
     let end = at_most(n, room);
-    print::bytes(&room[0..end]);
-    print::text(b", rest ");
+    print::print_bytes(&room[0..end]);
+    print::print_text(b", rest ");
     print_kept(room, end);
     end
 }
 
 fn print_refused(number: u8, room: &[u8]) -> usize {
-    print::form(b" -> refused #, room ", &[number as u32]);
+    print::print_form(b" -> refused #, room ", &[number as u32]);
     print_kept(room, 0);
     0
 }
 
 fn print_kept(room: &[u8], from: usize) {
     if kept(room, from) {
-        print::text(b"kept\n");
+        print::print_text(b"kept\n");
     } else {
-        print::text(b"CHANGED\n");
+        print::print_text(b"CHANGED\n");
     }
 }
 

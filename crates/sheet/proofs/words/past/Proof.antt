@@ -1,9 +1,9 @@
--- `bench_sheet::sheet::past` meets its contract: the loop starts at the place and only goes on. Assumes nothing.
+-- `sheet::words::past` meets its contract: the loop starts at the place and only goes on. Assumes nothing.
 use Prim.Native.Nat.{_≤_, _-_}
 use lib.ListN.{length}
 use borrow.Author.Needs.{needs}
-use Rattle.bench_sheet.proofs.sheet.past.Statement.{statement}
-use Rattle.bench_sheet.proofs.sheet.past.Tie as tie
+use Rattle.sheet.proofs.words.past.Statement.{statement}
+use Rattle.sheet.proofs.words.past.Tie as tie
 
 abbrev Inv-loop : tie.InvT-loop
 Inv-loop s from b i₀ i = (from ≤ i) × (i ≤ length s)

@@ -1,9 +1,9 @@
--- `bench_sheet::sheet::number` meets its contract: the loop ends at the line's end, and `more` keeps the number small. Assumes nothing.
+-- `sheet::words::number` meets its contract: the loop ends at the line's end, and `more` keeps the number small. Assumes nothing.
 use Prim.Native.Nat.{_≤_, _-_}
 use lib.ListN.{length}
 use borrow.Author.Needs.{needs}
-use Rattle.bench_sheet.proofs.sheet.number.Statement.{statement}
-use Rattle.bench_sheet.proofs.sheet.number.Tie as tie
+use Rattle.sheet.proofs.words.number.Statement.{statement}
+use Rattle.sheet.proofs.words.number.Tie as tie
 
 abbrev Inv-loop : tie.InvT-loop
 Inv-loop line before i₀ n₀ i n = i ≤ length line

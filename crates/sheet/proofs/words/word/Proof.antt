@@ -1,9 +1,9 @@
--- `bench_sheet::sheet::word` meets its contract: each word starts within the line. Assumes nothing.
+-- `sheet::words::word` meets its contract: each word starts within the line. Assumes nothing.
 use Prim.Native.Nat.{_≤_, _-_}
 use lib.ListN.{length}
 use borrow.Author.Needs.{needs}
-use Rattle.bench_sheet.proofs.sheet.word.Statement.{statement}
-use Rattle.bench_sheet.proofs.sheet.word.Tie as tie
+use Rattle.sheet.proofs.words.word.Statement.{statement}
+use Rattle.sheet.proofs.words.word.Tie as tie
 
 abbrev Inv-loop : tie.InvT-loop
 Inv-loop line before at₀ k₀ at k = (k ≤ before) × (at ≤ length line)

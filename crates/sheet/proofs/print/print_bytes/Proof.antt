@@ -1,9 +1,9 @@
--- `bench_sheet::print::bytes` meets its contract: the loop ends at the length, and the measure is what is left of it. Assumes nothing.
+-- `sheet::print::print_bytes` meets its contract: the loop ends at the length, and the measure is what is left of it. Assumes nothing.
 use Prim.Native.Nat.{_≤_, _-_}
 use lib.ListN.{length}
 use borrow.Author.Needs.{needs}
-use Rattle.bench_sheet.proofs.print.bytes.Statement.{statement}
-use Rattle.bench_sheet.proofs.print.bytes.Tie as tie
+use Rattle.sheet.proofs.print.print_bytes.Statement.{statement}
+use Rattle.sheet.proofs.print.print_bytes.Tie as tie
 
 abbrev Inv-loop : tie.InvT-loop
 Inv-loop s i₀ i = i ≤ length s
@@ -32,8 +32,8 @@ loop-again c = search needs
 returns : tie.Need-returns Inv-loop μ-loop
 returns c = search needs
 
-pub bytes-spec : {M : Type 1} → statement M
-bytes-spec =
+pub print-bytes-spec : {M : Type 1} → statement M
+print-bytes-spec =
     tie.close
     (tie.spec
     Inv-loop

@@ -1,11 +1,11 @@
--- `bench_sheet::sheet::parse` meets its contract: no more bytes are put than the store holds, and three of the text give each.
+-- `sheet::words::parse` meets its contract: no more bytes are put than the store holds, and three of the text give each.
 -- Assumes nothing.
 use Prim.Native.Nat.{_≤_, _*_, _-_}
 use mathlib.Core.Path.{_≡_}
 use lib.ListN.{length}
 use borrow.Author.Needs.{needs}
-use Rattle.bench_sheet.proofs.sheet.parse.Statement.{statement}
-use Rattle.bench_sheet.proofs.sheet.parse.Tie as tie
+use Rattle.sheet.proofs.words.parse.Statement.{statement}
+use Rattle.sheet.proofs.words.parse.Tie as tie
 
 abbrev Inv-loop : tie.InvT-loop
 Inv-loop s store₀ n k₀ store k = (k ≤ n) × (n ≤ length store) × (length store ≡ length store₀) × (n * 3 ≤ length s)

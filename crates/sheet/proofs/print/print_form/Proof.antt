@@ -1,9 +1,9 @@
--- `bench_sheet::print::form` meets its contract: no more values are taken than bytes of the text were passed. Assumes nothing.
+-- `sheet::print::print_form` meets its contract: no more values are taken than bytes of the text were passed. Assumes nothing.
 use Prim.Native.Nat.{_≤_, _-_}
 use lib.ListN.{length}
 use borrow.Author.Needs.{needs}
-use Rattle.bench_sheet.proofs.print.form.Statement.{statement}
-use Rattle.bench_sheet.proofs.print.form.Tie as tie
+use Rattle.sheet.proofs.print.print_form.Statement.{statement}
+use Rattle.sheet.proofs.print.print_form.Tie as tie
 
 abbrev Inv-loop : tie.InvT-loop
 Inv-loop s values k₀ i₀ k i = (k ≤ i) × (i ≤ length s)
@@ -38,8 +38,8 @@ loop-again c = search needs
 returns : tie.Need-returns Inv-loop μ-loop
 returns c = search needs
 
-pub form-spec : {M : Type 1} → statement M
-form-spec =
+pub print-form-spec : {M : Type 1} → statement M
+print-form-spec =
     tie.close
     (tie.spec
     Inv-loop

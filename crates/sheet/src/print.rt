@@ -1,16 +1,16 @@
 // Text, numbers and bytes on standard output. Nothing is said of a write that fails: the run is held to what it must write.
 ghost use Prim.Native.Nat.{_≤_, _<_};
 
-pub(crate) fn text(s: &[u8]) {
+pub fn print_text(s: &[u8]) {
     io::write_all(1, s);
 }
 
-pub(crate) fn number(n: usize) {
+pub fn print_number(n: usize) {
     io::print_decimal(1, n as u64);
 }
 
 // Text in which a # stands for the next value in decimal, and a $ for the next value as a byte.
-pub(crate) fn form(s: &[u8], values: &[u32]) {
+pub fn print_form(s: &[u8], values: &[u32]) {
     let mut k: usize = 0;
     let mut i: usize = 0;
     while i < s.len() {
@@ -20,8 +20,8 @@ pub(crate) fn form(s: &[u8], values: &[u32]) {
 }
 
 // What a reader refused, by 01's number.
-pub(crate) fn refused(number: u8) {
-    form(b" refused #\n", &[number as u32]);
+pub fn print_fault(number: u8) {
+    print_form(b" refused #\n", &[number as u32]);
 }
 
 // A byte of such a text, or what it stands for; and how many values that took.
@@ -36,7 +36,7 @@ fn part(b: u8, value: u32) -> usize
         byte((value % 256) as u8);
         return 1;
     }
-    text(&[b]);
+    print_text(&[b]);
     0
 }
 
@@ -57,16 +57,16 @@ fn hex_digit(d: u8) -> u8
 
 // A byte as 01 writes one alone: 45h.
 fn byte(b: u8) {
-    text(&[hex_digit(b / 16), hex_digit(b % 16), b'h']);
+    print_text(&[hex_digit(b / 16), hex_digit(b % 16), b'h']);
 }
 
 // A byte as 01 writes one in a frame, behind a blank.
 fn next_byte(b: u8) {
-    text(&[b' ', hex_digit(b / 16), hex_digit(b % 16)]);
+    print_text(&[b' ', hex_digit(b / 16), hex_digit(b % 16)]);
 }
 
 // The bytes of a frame, a blank before each: 04 50 02.
-pub(crate) fn bytes(s: &[u8]) {
+pub fn print_bytes(s: &[u8]) {
     let mut i: usize = 0;
     while i < s.len() {
         next_byte(s[i]);

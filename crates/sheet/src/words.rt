@@ -1,12 +1,12 @@
-// What a line of the sheet gives: its words, of which some are numbers, or a frame in hex behind a label and a colon. A line that is not
-// well made gives some number or other.
+// What a line of a sheet gives: its words, of which some are numbers, or a frame in hex behind its colon. A word is known by how many stand
+// before it. A line that is not well made gives some number or other, which the run then shows.
 ghost use Prim.Native.Nat.{_≤_, _<_};
 ghost use lib.ListN.{length};
 use crate::print;
 use crate::room;
 
 // The place past the first b at or after a place; the end where there is none.
-pub(crate) fn past(s: &[u8], from: usize, b: u8) -> usize
+fn past(s: &[u8], from: usize, b: u8) -> usize
     requires { ⌜ from ≤ length (now s) ⌝ }
     ensures { λ r. ⌜ from ≤ r ⌝ }
     ensures { λ r. ⌜ r ≤ length (now (s .entry)) ⌝ }
@@ -20,6 +20,17 @@ pub(crate) fn past(s: &[u8], from: usize, b: u8) -> usize
         i += 1;
     }
     s.len()
+}
+
+// The place past the line that stands at a place.
+pub fn line_end(all: &[u8], at: usize) -> usize
+    ensures { λ r. ⌜ r ≤ length (now (all .entry)) ⌝ }
+    ensures { λ r. ⌜ (at < length (now (all .entry)) → at < r) ⌝ }
+{
+    if at < all.len() {
+        return past(all, at, b'\n');
+    }
+    all.len()
 }
 
 // Where the word stands that has so many words before it.
@@ -36,7 +47,7 @@ fn word(line: &[u8], before: usize) -> usize
 }
 
 // The first letter of a word; 0 where the line has no such word.
-pub(crate) fn letter(line: &[u8], before: usize) -> u8 {
+pub fn letter(line: &[u8], before: usize) -> u8 {
     let at = word(line, before);
     if at < line.len() {
         return line[at];
@@ -45,7 +56,7 @@ pub(crate) fn letter(line: &[u8], before: usize) -> u8 {
 }
 
 // The byte that a word says in hex.
-pub(crate) fn byte(line: &[u8], before: usize) -> u8 {
+pub fn byte(line: &[u8], before: usize) -> u8 {
     let at = word(line, before);
     if line.len() - at < 2 {
         return 0;
@@ -54,7 +65,7 @@ pub(crate) fn byte(line: &[u8], before: usize) -> u8 {
 }
 
 // The number that a word says in decimal.
-pub(crate) fn number(line: &[u8], before: usize) -> u32 {
+pub fn number(line: &[u8], before: usize) -> u32 {
     let mut i = word(line, before);
     let mut n: u64 = 0;
     while i < line.len() {
@@ -77,14 +88,14 @@ fn more(n: u64, digit: u8) -> u64 {
 }
 
 // The line up to its colon.
-pub(crate) fn print_label(line: &[u8]) {
-    print::text(b"  ");
+pub fn print_label(line: &[u8]) {
+    print::print_text(b"  ");
     let colon = past(line, 0, b':');
-    print::text(&line[0..colon]);
+    print::print_text(&line[0..colon]);
 }
 
 // Puts the frame that stands behind a line's colon at the start of the store, and says how many bytes it has.
-pub(crate) fn frame(line: &[u8], store: &mut [u8]) -> usize {
+pub fn frame(line: &[u8], store: &mut [u8]) -> usize {
     let colon = past(line, 0, b':');
     parse(&line[colon..], store)
 }

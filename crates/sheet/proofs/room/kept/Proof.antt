@@ -1,10 +1,10 @@
--- `bench_sheet::room::kept` meets its contract: it reads below the room's end alone, and the measure is what is left of the room.
+-- `sheet::room::kept` meets its contract: it reads below the room's end alone, and the measure is what is left of the room.
 -- Assumes nothing.
 use Prim.Native.Nat.{_≤_, _-_}
 use lib.ListN.{length}
 use borrow.Author.Needs.{needs}
-use Rattle.bench_sheet.proofs.room.kept.Statement.{statement}
-use Rattle.bench_sheet.proofs.room.kept.Tie as tie
+use Rattle.sheet.proofs.room.kept.Statement.{statement}
+use Rattle.sheet.proofs.room.kept.Tie as tie
 
 abbrev Inv-loop : tie.InvT-loop
 Inv-loop room from i₀ i = from ≤ i
