@@ -12,6 +12,7 @@ pub use print::print_text;
 pub use room::at_most;
 pub use room::long_room;
 pub use room::print_put;
+pub use room::print_refused;
 pub use room::short_room;
 pub use words::byte;
 pub use words::frame;

@@ -49,7 +49,8 @@ fn print_laid(n: usize, room: &[u8]) -> usize {
     end
 }
 
-fn print_refused(number: u8, room: &[u8]) -> usize {
+// What a call refused, by 01's number, and whether it left the room as it was.
+pub fn print_refused(number: u8, room: &[u8]) -> usize {
     print::print_form(b" -> refused #, room ", &[number as u32]);
     print_kept(room, 0);
     0

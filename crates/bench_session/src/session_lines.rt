@@ -1,0 +1,224 @@
+// Lines about the dispenser session. One session goes through them all, from one start to the next.
+//
+//     session starts:
+//     session request, room 16: 45h upper 10 lower 0
+//     session bytes, room 16: 15 06
+//     session ticks, room 16: 1000 times 5
+//     session commands refused: 999999
+//     session account:
+//
+// A call that sends, closes or is refused says so in a line of its own.
+use dispenser::Closing;
+use dispenser::Reply;
+use dispenser::Session;
+use dispenser::Sums;
+use numbers::Put;
+
+// What the line's second word tells, by its first letter.
+pub(crate) fn run(line: &[u8], session: Session) -> Session {
+    sheet::print_label(line);
+    let letter = sheet::letter(line, 1);
+    if letter == b'r' {
+        return request(line, session);
+    }
+    if letter == b'b' {
+        return bytes(line, session);
+    }
+    if letter == b't' {
+        return ticks(line, session);
+    }
+    run_others(line, letter, session)
+}
+
+fn run_others(line: &[u8], letter: u8, session: Session) -> Session {
+    if letter == b'c' {
+        return commands(sheet::number(line, 3), session);
+    }
+    if letter == b'a' {
+        print_sums(b"\n    upper", session.account.upper);
+        print_sums(b"    lower", session.account.lower);
+        return session;
+    }
+    sheet::print_text(b"\n");
+    Session::fresh()
+}
+
+fn request(line: &[u8], session: Session) -> Session {
+    let mut lent = sheet::short_room();
+    let size = sheet::number(line, 3);
+    let code = sheet::byte(line, 4);
+    let upper = sheet::number(line, 6);
+    let lower = sheet::number(line, 8);
+    sheet::print_form(b" $ upper # lower #\n", &[code as u32, upper, lower]);
+    request_in(session, code, upper, lower, size, &mut lent)
+}
+
+fn request_in(
+    session: Session,
+    code: u8,
+    upper: u32,
+    lower: u32,
+    size: u32,
+    lent: &mut [u8],
+) -> Session {
+    let end = sheet::at_most(size as usize, lent);
+    let outcome = session.request(code, upper, lower, &mut lent[0..end]);
+    let next = outcome.session;
+    let reply = outcome.reply;
+    show(reply, lent);
+    next
+}
+
+fn bytes(line: &[u8], session: Session) -> Session {
+    let mut store = [0u8; 32];
+    let n = sheet::frame(line, &mut store);
+    bytes_in(session, n, sheet::number(line, 3), &store)
+}
+
+fn bytes_in(session: Session, n: usize, size: u32, store: &[u8]) -> Session {
+    let end = sheet::at_most(n, store);
+    sheet::print_bytes(&store[0..end]);
+    sheet::print_text(b"\n");
+    each_byte(session, size, &store[0..end])
+}
+
+fn each_byte(session: Session, size: u32, given: &[u8]) -> Session {
+    let mut now = session;
+    let mut i: usize = 0;
+    while i < given.len() {
+        now = byte(now, given[i], size);
+        i += 1;
+    }
+    now
+}
+
+fn byte(session: Session, b: u8, size: u32) -> Session {
+    let mut lent = sheet::short_room();
+    byte_in(session, b, size, &mut lent)
+}
+
+fn byte_in(session: Session, b: u8, size: u32, lent: &mut [u8]) -> Session {
+    let end = sheet::at_most(size as usize, lent);
+    let outcome = session.byte(b, &mut lent[0..end]);
+    let next = outcome.session;
+    let reply = outcome.reply;
+    show(reply, lent);
+    next
+}
+
+fn ticks(line: &[u8], session: Session) -> Session {
+    let ms = sheet::number(line, 4);
+    let times = sheet::number(line, 6);
+    sheet::print_form(b" # times #\n", &[ms, times]);
+    each_tick(session, ms, times, sheet::number(line, 3))
+}
+
+fn each_tick(session: Session, ms: u32, times: u32, size: u32) -> Session {
+    let mut now = session;
+    let mut k: u32 = 0;
+    while k < times {
+        now = tick(now, ms, size);
+        k += 1;
+    }
+    now
+}
+
+fn tick(session: Session, ms: u32, size: u32) -> Session {
+    let mut lent = sheet::short_room();
+    tick_in(session, ms, size, &mut lent)
+}
+
+fn tick_in(session: Session, ms: u32, size: u32, lent: &mut [u8]) -> Session {
+    let end = sheet::at_most(size as usize, lent);
+    let outcome = session.tick(ms, &mut lent[0..end]);
+    let next = outcome.session;
+    let reply = outcome.reply;
+    show(reply, lent);
+    next
+}
+
+// So many commands accepted, each refused three times.
+fn commands(times: u32, session: Session) -> Session {
+    sheet::print_form(b" #\n", &[times]);
+    let mut now = session;
+    let mut k: u32 = 0;
+    while k < times {
+        now = command(now);
+        k += 1;
+    }
+    now
+}
+
+fn command(session: Session) -> Session {
+    let mut lent = sheet::short_room();
+    let quiet = quietly(session, &mut lent);
+    let open = quiet.request(0x44, 0, 0, &mut lent).session;
+    let again = open.byte(0x15, &mut lent).session;
+    let third = again.byte(0x15, &mut lent).session;
+    third.byte(0x15, &mut lent).session
+}
+
+// Quiet enough for the next command.
+fn quietly(session: Session, lent: &mut [u8]) -> Session {
+    let mut now = session;
+    let mut k: u32 = 0;
+    while k < 6 {
+        now = now.tick(1_000, lent).session;
+        k += 1;
+    }
+    now
+}
+
+fn show(reply: Reply, lent: &[u8]) {
+    match reply {
+        Reply::Refused(why) => {
+            sheet::print_text(b"   ");
+            sheet::print_refused(why.number(), lent);
+        }
+        Reply::Done { put, closing } => {
+            show_sent(put, lent);
+            show_closing(closing);
+        }
+    }
+}
+
+fn show_sent(put: usize, lent: &[u8]) {
+    if 0 < put {
+        sheet::print_text(b"   ");
+        sheet::print_put(Put::Bytes(put), lent);
+    }
+}
+
+fn show_closing(closing: Closing) {
+    match closing {
+        Closing::Nothing => {}
+        Closing::Answered(_, listed) => show_answered(listed),
+        Closing::Refused => sheet::print_text(b"    closed, refused\n"),
+        Closing::Unknown => sheet::print_text(b"    closed, unknown\n"),
+    }
+}
+
+fn show_answered(listed: bool) {
+    if listed {
+        sheet::print_text(b"    closed, answered, error listed\n");
+    } else {
+        sheet::print_text(b"    closed, answered, error unlisted\n");
+    }
+}
+
+fn print_sums(name: &[u8], s: Sums) {
+    sheet::print_text(name);
+    sheet::print_form(
+        b" asked # paid # short # over # refused # unknown # open # rejected #\n",
+        &[
+            s.asked.0,
+            s.paid.0,
+            s.short.0,
+            s.over.0,
+            s.refused.0,
+            s.unknown.0,
+            s.pending.0,
+            s.rejected.0,
+        ],
+    );
+}
