@@ -1,0 +1,5 @@
+pub mod Deeds
+pub mod Sending
+pub mod Reading
+pub mod Exact
+pub mod Tied
