@@ -3,3 +3,6 @@ pub mod Sending
 pub mod Reading
 pub mod Exact
 pub mod Tied
+pub mod Past
+pub mod Booking
+pub mod Agreeing

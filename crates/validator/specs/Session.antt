@@ -1,7 +1,7 @@
 -- The validator session, call by call (01, "The validator session" and "Numbers a call can answer").
 use Prim.Native.Nat.{ℕ, _+_}
 use mathlib.Core.Path.{_≡_, sym, _∙_}
-use mathlib.Core.Bool.{true, true≢false}
+use mathlib.Core.Bool.{Bool, true, true≢false}
 use mathlib.Core.List.{List, [], _∷_}
 use lib.ListN.{length, take, set, replicate}
 use Rattle.numbers.specs.Rules.{Condition, Rule, under, atMost, within, same, either, both, isnt, judged, _gives_}
@@ -15,7 +15,6 @@ use Rattle.ccnet_frame.specs.declared.class.Class.the-variants.{Ack, Nak, Illeg
 use Rattle.validator.specs.Limits.{leastRoom, commandLimit, storeSize, types}
 use Rattle.validator.specs.Line.{freshLine, opened, remembers, isOpen, heard, passed}
 use Rattle.validator.specs.Bills.{noBills, bookedBy, credited, remembered}
-use Rattle.validator.specs.declared.line.Phase.{Phase}
 use Rattle.validator.specs.declared.line.Line.{Line}
 use Rattle.validator.specs.declared.line.Todo.{Todo}
 use Rattle.validator.specs.declared.line.Todo.the-variants.{Nothing as Rest, Keep, Judge, Damage, Silence}
@@ -192,16 +191,16 @@ tickStep l store ms r =
 
 -- ---- requests
 
--- "a command is open on this line"
-abbrev pub opens : Phase → Condition
-opens p = record { holds = isOpen p ≡ true; test = isOpen p; tells = record { shown = λ e. e; denied = λ e h. true≢false (sym h ∙ e) } }
+-- a test that is true
+abbrev pub says : Bool → Condition
+says b = record { holds = b ≡ true; test = b; tells = record { shown = λ e. e; denied = λ e h. true≢false (sym h ∙ e) } }
 
 -- "Requests can meet 1 to 5": "the lowest that applies is given"
 unfoldable pub requestRefusals : Line → ℕ → List ℕ → List ℕ → List (Rule Declined)
 requestRefusals l code given r =
     under (length r) leastRoom gives Room
     ∷ isnt (isCommand code (length given)) gives Range
-    ∷ opens (l .phase) gives Open
+    ∷ says (isOpen (l .phase)) gives Open
     ∷ under 0 (l .left) gives Unquiet
     ∷ atMost commandLimit (l .accepted) gives Spent
     ∷ []
