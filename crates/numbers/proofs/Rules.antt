@@ -3,7 +3,7 @@
 use mathlib.Core.Path.{_≡_, refl, sym, ap, _∙_, subst}
 use mathlib.Core.Bool.{Bool, true, false, cond}
 use mathlib.Core.List.{List, [], _∷_}
-use mathlib.Core.Logic.{_⊎_, inl, inr, ⊎-elim}
+use mathlib.Core.Logic.{_⊎_, inl, inr, ⊎-elim, _↔_}
 use borrow.Author.Tests.{lt-ltb, le-ltb, le-leb, lt-leb, eq-eqb, ne-eqb}
 use Rattle.numbers.specs.Rules.{Condition, Rule, judged, First, NoneOf, Exactly}
 
@@ -82,3 +82,32 @@ exactly rs refuse done same apart =
         none-judged refuse done rs,
       );
     }
+
+-- two lists of rules that say the same: rule by rule, as long as none before applies
+abbrev pub Alike : {B : Type 0} → List (Rule B) → List (Rule B) → Type 0
+Alike [] [] = Unit {0}
+Alike [] (q ∷ qs) = ⊥
+Alike (r ∷ rs) [] = ⊥
+Alike (r ∷ rs) (q ∷ qs) = (r .gives ≡ q .gives) × ((r .when .holds ↔ q .when .holds) × ((r .when .holds → ⊥) → Alike rs qs))
+
+pub alike-back : {B : Type 0} (rs qs : List (Rule B)) → Alike rs qs → Alike qs rs
+alike-back [] [] a = tt
+alike-back [] (q ∷ qs) a = a
+alike-back (r ∷ rs) [] a = a
+alike-back (r ∷ rs) (q ∷ qs) a = (sym (a .0), ((a .1 .0 .1, a .1 .0 .0), λ n. alike-back rs qs (a .1 .1 (λ h. n (a .1 .0 .0 h)))))
+
+pub first-alike : {B : Type 0} (rs qs : List (Rule B)) → Alike rs qs → (x : B) → First rs x → First qs x
+first-alike [] [] a x f = f
+first-alike [] (q ∷ qs) a x f = absurd a
+first-alike (r ∷ rs) [] a x f = absurd a
+first-alike (r ∷ rs) (q ∷ qs) a x f =
+    ⊎-elim
+    (λ (h : r .when .holds × (r .gives ≡ x)). inl (a .1 .0 .0 (h .0), sym (a .0) ∙ h .1))
+    (λ (h : (r .when .holds → ⊥) × First rs x). inr ((λ w. h .0 (a .1 .0 .1 w)), first-alike rs qs (a .1 .1 (h .0)) x (h .1)))
+    f
+
+pub none-alike : {B : Type 0} (rs qs : List (Rule B)) → Alike rs qs → NoneOf rs → NoneOf qs
+none-alike [] [] a n = n
+none-alike [] (q ∷ qs) a n = absurd a
+none-alike (r ∷ rs) [] a n = absurd a
+none-alike (r ∷ rs) (q ∷ qs) a n = ((λ w. n .0 (a .1 .0 .1 w)), none-alike rs qs (a .1 .1 (n .0)) (n .1))
