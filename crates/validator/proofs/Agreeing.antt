@@ -1,17 +1,17 @@
 -- After any calls at all the session agrees with the history: its bills, its store, and the numbers 3, 4 and 5. Assumes nothing.
 use Prim.Native.Nat.{ℕ, _+_, _-_, _≤_, _<_}
 use mathlib.Core.Path.{_≡_, refl, sym, ap, ap₂, _∙_, subst}
-use mathlib.Core.Bool.{Bool, true, false, cond}
+use mathlib.Core.Bool.{true, false, cond}
 use mathlib.Core.List.{List, [], _∷_, _++_}
-use mathlib.Core.Logic.{_⊎_, inl, inr, ⊎-elim, _↔_}
+use mathlib.Core.Logic.{_⊎_, ⊎-elim}
 use native.Mathlib.Omega.{arith}
 use lib.Dec.{eqb, lit≤}
-use lib.ListN.{length, getD, set, take, replicate, length-append, length-replicate, getD-replicate}
+use lib.ListN.{length, set, take, replicate, length-append, length-replicate, getD-replicate}
 use lib.Seq.{take-at}
 use borrow.Author.Tests.{lt-ltb}
-use Rattle.numbers.specs.Rules.{Rule, under, same, judged, First, NoneOf}
+use Rattle.numbers.specs.Rules.{Rule, under, same, judged, NoneOf}
 use Rattle.numbers.specs.Put.{over}
-use Rattle.numbers.proofs.Rules.{certain, holds-true, fails-false, cond-true, cond-false, first-judged, none-judged, first-or-none}
+use Rattle.numbers.proofs.Rules.{holds-true, fails-false, cond-true, cond-false, first-judged, none-judged, first-or-none, Alike, alike-back, first-alike, none-alike}
 use Rattle.numbers.proofs.Writing.{take-over}
 use Rattle.ccnet_frame.specs.Frame.{frame, judgeFrame, bodyOf}
 use Rattle.ccnet_frame.specs.Class.{classOf}
@@ -20,20 +20,19 @@ use Rattle.ccnet_frame.specs.declared.frame.Judged.the-variants.{Good as Passed
 use Rattle.ccnet_frame.specs.declared.class.Class.{Class}
 use Rattle.ccnet_frame.specs.declared.class.Class.the-variants.{Ack, Nak, Illegal, State, Busy, Rejecting, Failing, Escrow, Stacked, Returned, Unknown}
 use Rattle.ccnet_frame.proofs.Frames.{frame-length}
-use Rattle.ledger.specs.Events.{Deed, asks, hears, waits, Left, goes-on, closes, Event, declined, done, isFrame, since}
+use Rattle.ledger.specs.Events.{Deed, asks, hears, waits, goes-on, closes, Event, declined, done, isFrame, since}
 use Rattle.ledger.specs.Line.{isOpen, quietTime, accepted}
 use Rattle.validator.specs.Limits.{quiet, frameWait, storeSize, commandLimit, types}
 use Rattle.validator.specs.Line.{isOpen as openIn, opened, closed, remembers, inside, waits as still, startByte, addressByte, lengthByte, furtherByte, gathered, heardIn, heard, expiredIn, expired, passed}
-use Rattle.validator.specs.Bills.{bills, bookedBy, poll, credited, remembered}
-use Rattle.validator.specs.Session.{LentAfter, StepAfter, stepAfter, refusedStep, lentAfter, afterStep, zeros, damagedStep, closedStep, answeredStep, classStep, foundIn, found, judgedStep, judgeStep, acted, byteActed, byteRefusals, tickRefusals, requestRefusals, byteStep, tickStep, requestStep, freshSession, sessionRequest, sessionByte, sessionTick}
-use Rattle.validator.specs.History.{Request, Ending, acknowledged, refused, illegal, answered, damaged, silent, Past, lastCode, fromStart, between, bodyBy, pollBody, reported, counted, gathered as so-far}
-use Rattle.validator.specs.Calls.{Call, request, byte, tick, called, deed, eventOf, event, reached, past, BillsTold, BillsFew, StoreTold, historyRefusals, NumbersTold}
+use Rattle.validator.specs.Bills.{bills, bookedBy, poll, remembered}
+use Rattle.validator.specs.Session.{LentAfter, StepAfter, stepAfter, refusedStep, lentAfter, afterStep, zeros, damagedStep, answeredStep, classStep, foundIn, found, judgedStep, judgeStep, acted, byteActed, byteRefusals, tickRefusals, requestRefusals, byteStep, tickStep, requestStep, freshSession, sessionRequest, sessionByte, sessionTick}
+use Rattle.validator.specs.History.{Request, Ending, acknowledged, refused, illegal, answered, damaged, silent, Past, lastCode, fromStart, between, pollBody, reported, counted, gathered as so-far, told, seen, historyFrom, history, KeptByHistory, historyRefusals, DeclinesByHistory}
+use Rattle.validator.specs.Calls.{Call, request, byte, tick, called, run}
 use Rattle.validator.specs.declared.bills.Bills.{Bills}
 use Rattle.validator.specs.declared.line.Phase.{Phase}
 use Rattle.validator.specs.declared.line.Phase.the-variants.{Idle, Start, Inside}
 use Rattle.validator.specs.declared.line.Line.{Line}
-use Rattle.validator.specs.declared.line.Todo.{Todo}
-use Rattle.validator.specs.declared.line.Todo.the-variants.{Nothing, Keep, Judge, Damage, Silence}
+use Rattle.validator.specs.declared.line.Todo.the-variants.{Nothing, Keep, Silence}
 use Rattle.validator.specs.declared.line.Turn.{Turn}
 use Rattle.validator.specs.declared.session.Declined.{Declined}
 use Rattle.validator.specs.declared.session.Session.{Session}
@@ -125,7 +124,7 @@ module _ (l : Line) (bs : List Bills) (h : Past) (base : Base l bs h) (fewer : F
 
 -- the session agrees after a step that answers a byte or a tick
 abbrev Next : Session → Past → Deed Request → LentAfter → Type 0
-Next s h d w = Agrees (afterStep s w .session) (eventOf d (w .step .reply) (w .room) ∷ h)
+Next s h d w = Agrees (afterStep s w .session) (told d (w .step .reply) (w .room) ∷ h)
 
 module _ (s : Session) (h : Past) (k : Agrees s h) where
   abbrev l : Line
@@ -157,7 +156,7 @@ module _ (s : Session) (h : Past) (k : Agrees s h) where
       heard-answered : Next s h (hears b) (answeredStep (closed l) (classOf body) r)
       unfolding answeredStep
       heard-answered =
-          let e = eventOf (hears b) (answeredStep (closed l) (classOf body) r .step .reply) (answeredStep (closed l) (classOf body) r .room) in
+          let e = told (hears b) (answeredStep (closed l) (classOf body) r .step .reply) (answeredStep (closed l) (classOf body) r .room) in
           let ends = heard-ends h b _ answered in
           let m = remembers (closed l) (remembered (l .code) (l .last) (classOf body)) in
           record {
@@ -525,33 +524,33 @@ module _ (s : Session) (h : Past) (k : Agrees s h) where
       }
 
   request-agrees : (code : ℕ) (given r : List ℕ)
-      → Agrees (sessionRequest s code given r .session) (event (request code given r) (sessionRequest s code given r) ∷ h)
+      → Agrees (sessionRequest s code given r .session) (seen s (request code given r) ∷ h)
   unfolding sessionRequest requestStep requestRefusals
   request-agrees code given r =
       either-way
       (λ (w : StepAfter).
       Agrees (record { line = w .step .line; bills = s .bills; store = s .store })
-      (eventOf (asks (record { code = code; given = given })) (w .step .reply) (w .room) ∷ h))
+      (told (asks (record { code = code; given = given })) (w .step .reply) (w .room) ∷ h))
       (requestRefusals (s .line) code given r) (λ why. stepAfter (refusedStep (s .line) why) r) _
       (λ why. declined-agrees)
       (λ n.
       wrote-agrees s h k code given r (resting s h k code given r (s .line .phase) (n .1 .1 .0) (k .stands)) (omega (arith, n .1 .1 .1 .1 .0)))
 
-  byte-agrees : (b : ℕ) → b < 256 → (r : List ℕ) → Agrees (sessionByte s b r .session) (eventOf (hears b) (sessionByte s b r .reply) (sessionByte s b r .room) ∷ h)
+  byte-agrees : (b : ℕ) (small : b < 256) (r : List ℕ) → Agrees (sessionByte s b r .session) (seen s (byte b small r) ∷ h)
   unfolding sessionByte byteStep bookedBy
   byte-agrees b small r =
       either-way (Next s h (hears b)) (byteRefusals r) (λ why. lentAfter (refusedStep (s .line) why) (s .store) r) _
       (λ why. declined-agrees)
       (λ n. after-heard s h k b small r)
 
-  tick-agrees : (ms : ℕ) (r : List ℕ) → Agrees (sessionTick s ms r .session) (event (tick ms r) (sessionTick s ms r) ∷ h)
+  tick-agrees : (ms : ℕ) (r : List ℕ) → Agrees (sessionTick s ms r .session) (seen s (tick ms r) ∷ h)
   unfolding sessionTick tickStep bookedBy
   tick-agrees ms r =
       either-way (Next s h (waits ms)) (tickRefusals ms r) (λ why. lentAfter (refusedStep (s .line) why) (s .store) r) _
       (λ why. declined-agrees)
       (λ n. after-passed s h k ms r)
 
-called-agrees : (s : Session) (h : Past) (c : Call) → Agrees s h → Agrees (called s c .session) (event c (called s c) ∷ h)
+called-agrees : (s : Session) (h : Past) (c : Call) → Agrees s h → Agrees (called s c .session) (seen s c ∷ h)
 called-agrees s h (request code given r) k = request-agrees s h k code given r
 called-agrees s h (byte b small r) k = byte-agrees s h k b small r
 called-agrees s h (tick ms r) k = tick-agrees s h k ms r
@@ -573,26 +572,21 @@ fresh-agrees =
     }
 
 -- after any calls at all
-always-agrees : (cs : List Call) → Agrees (reached cs) (past cs)
-unfolding reached past
-always-agrees [] = fresh-agrees
-always-agrees (c ∷ cs) = called-agrees (reached cs) (past cs) c (always-agrees cs)
+run-agrees : (s : Session) (h : Past) (cs : List Call) → Agrees s h → Agrees (run s cs) (historyFrom s h cs)
+unfolding run historyFrom
+run-agrees s h [] k = k
+run-agrees s h (c ∷ cs) k = run-agrees (called s c .session) (seen s c ∷ h) cs (called-agrees s h c k)
+
+always-agrees : (cs : List Call) → Agrees (run freshSession cs) (history cs)
+always-agrees cs = run-agrees freshSession [] cs fresh-agrees
 
 -- ---- what is promised
 
-pub bills-told : BillsTold
-bills-told cs = always-agrees cs .base .counts
-
-pub bills-few : BillsFew
-bills-few cs y small = by (reached cs .line .phase) (always-agrees cs .stands)
-  where
-    agrees : Base (reached cs .line) (reached cs .bills) (past cs)
-    agrees = always-agrees cs .base
-
-    by : (p : Phase) → Stands p (reached cs .line) (reached cs .store) (past cs) → counted y (past cs) ≤ commandLimit
-    by Idle st = omega (arith, st .bound y small, agrees .accepted-is, agrees .few)
-    by Start st = omega (arith, st .bound y small, agrees .accepted-is, agrees .few)
-    by Inside st = omega (arith, st .bound y small, agrees .accepted-is, agrees .few)
+-- no more bills of a type than commands accepted
+few-is : (l : Line) (store : List ℕ) (h : Past) (p : Phase) → Stands p l store h → (y : ℕ) → y < types → counted y h ≤ accepted h
+few-is l store h Idle st y small = st .bound y small
+few-is l store h Start st y small = omega (arith, st .bound y small)
+few-is l store h Inside st y small = omega (arith, st .bound y small)
 
 -- the store, by where the line stands
 store-is : (l : Line) (store : List ℕ) (h : Past) (p : Phase) → Stands p l store h
@@ -601,39 +595,25 @@ store-is l store h Idle st = rw (st .shut) (st .clean)
 store-is l store h Start st = rw (st .live) (rw (st .none) (st .clean))
 store-is l store h Inside st = rw (st .live) (rw (st .size) (st .filled))
 
-pub store-told : StoreTold
-store-told cs = store-is (reached cs .line) (reached cs .store) (past cs) (reached cs .line .phase) (always-agrees cs .stands)
+pub kept-by-history : KeptByHistory
+kept-by-history =
+    record {
+      bills = λ cs. always-agrees cs .base .counts;
+      few = λ cs y small.
+          let s = run freshSession cs in
+          let k = always-agrees cs in
+          omega (
+            arith,
+            few-is (s .line) (s .store) (history cs) (s .line .phase) (k .stands) y small,
+            k .base .accepted-is,
+            k .base .few,
+          );
+      store = λ cs.
+          let s = run freshSession cs in
+          store-is (s .line) (s .store) (history cs) (s .line .phase) (always-agrees cs .stands);
+    }
 
 -- ---- the numbers of a request
-
--- rules that give the same, each condition holding exactly where its like does, once those before it do not
-abbrev Alike : List (Rule Declined) → List (Rule Declined) → Type 0
-Alike [] [] = Unit {0}
-Alike [] (q ∷ qs) = ⊥
-Alike (r ∷ rs) [] = ⊥
-Alike (r ∷ rs) (q ∷ qs) = (r .gives ≡ q .gives) × (r .when .holds ↔ q .when .holds) × ((q .when .holds → ⊥) → Alike rs qs)
-
-first-alike : (rs qs : List (Rule Declined)) → Alike rs qs → (why : Declined) → First rs why ↔ First qs why
-first-alike [] [] a why = (λ f. f, λ f. f)
-first-alike [] (q ∷ qs) a why = absurd a
-first-alike (r ∷ rs) [] a why = absurd a
-first-alike (r ∷ rs) (q ∷ qs) a why = (
-  ⊎-elim
-      (λ f. inl (a .1 .0 (f .0), sym (a .0) ∙ f .1))
-      (λ f. let n : q .when .holds → ⊥ = λ h. f .0 (a .1 .1 h) in inr (n, first-alike rs qs (a .2 n) why .0 (f .1))),
-  ⊎-elim
-      (λ f. inl (a .1 .1 (f .0), a .0 ∙ f .1))
-      (λ f. inr ((λ h. f .0 (a .1 .0 h)), first-alike rs qs (a .2 (f .0)) why .1 (f .1))),
-)
-
-none-alike : (rs qs : List (Rule Declined)) → Alike rs qs → NoneOf rs ↔ NoneOf qs
-none-alike [] [] a = (λ n. n, λ n. n)
-none-alike [] (q ∷ qs) a = absurd a
-none-alike (r ∷ rs) [] a = absurd a
-none-alike (r ∷ rs) (q ∷ qs) a = (
-  λ n. let m : q .when .holds → ⊥ = λ h. n .0 (a .1 .1 h) in (m, none-alike rs qs (a .2 m) .0 (n .1)),
-  λ n. ((λ h. n .0 (a .1 .0 h)), none-alike rs qs (a .2 (n .0)) .1 (n .1)),
-)
 
 -- whether a command is open
 phase-told : (l : Line) (store : List ℕ) (h : Past) (p : Phase) → Stands p l store h → openIn p ≡ isOpen h
@@ -649,38 +629,48 @@ missing-told l store h Inside st n = absurd (n (st .live))
 
 module _ (s : Session) (h : Past) (k : Agrees s h) (code : ℕ) (given r : List ℕ) where
   refusals-alike : Alike (requestRefusals (s .line) code given r) (historyRefusals h code given r)
-  unfolding requestRefusals historyRefusals
+  unfolding requestRefusals
   refusals-alike =
       let o = phase-told (s .line) (s .store) h (s .line .phase) (k .stands) in
       let m = missing-told (s .line) (s .store) h (s .line .phase) (k .stands) in (
         refl,
-        (λ f. f, λ f. f),
-        λ n0. (
-          refl,
+        (
           (λ f. f, λ f. f),
-          λ n1. (
+          λ n0. (
             refl,
-            (λ f. sym o ∙ f, λ f. o ∙ f),
-            λ shut. (
-              refl,
-              (λ f. omega (arith, m shut), λ f. omega (arith, m shut)),
-              λ n3.
-                  (refl, (λ f. omega (arith, k .base .accepted-is), λ f. omega (arith, k .base .accepted-is)), λ n4. tt),
+            (
+              (λ f. f, λ f. f),
+              λ n1. (
+                refl,
+                (
+                  (λ f. sym o ∙ f, λ f. o ∙ f),
+                  λ shut.
+                      let left = m (λ f. shut (o ∙ f)) in (
+                        refl,
+                        (
+                          (λ f. omega (arith, left), λ f. omega (arith, left)),
+                          λ n3.
+                              (refl, ((λ f. omega (arith, k .base .accepted-is), λ f. omega (arith, k .base .accepted-is)), λ n4. tt)),
+                        ),
+                      ),
+                ),
+              ),
             ),
           ),
         ),
       )
 
-pub numbers-told : NumbersTold
-numbers-told cs code given r =
-    let s = reached cs in
-    let h = past cs in
+pub declines-by-history : DeclinesByHistory
+declines-by-history cs code given r =
+    let s = run freshSession cs in
+    let h = history cs in
+    let rs = requestRefusals (s .line) code given r in
+    let qs = historyRefusals h code given r in
     let a = refusals-alike s h (always-agrees cs) code given r in
+    let b = alike-back rs qs a in
     let d = exactly-when .request s code given r in
-    let f = first-alike (requestRefusals (s .line) code given r) (historyRefusals h code given r) a in
-    let n = none-alike (requestRefusals (s .line) code given r) (historyRefusals h code given r) a in
     record {
-      declined = λ why. (λ e. f why .0 (d .declined why .0 e), λ g. d .declined why .1 (f why .1 g));
+      declined = λ why. (λ e. first-alike rs qs a why (d .declined why .0 e), λ f. d .declined why .1 (first-alike qs rs b why f));
       kept = d .kept;
-      done = (λ t. n .0 (d .done .0 t), λ g. d .done .1 (n .1 g));
+      done = (λ t. none-alike rs qs a (d .done .0 t), λ n. d .done .1 (none-alike qs rs b n));
     }

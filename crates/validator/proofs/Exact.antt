@@ -1,9 +1,9 @@
 -- Each number is given exactly when 01 says, a call that is declined leaves everything as it was, and a call that is done sends what its
 -- closing calls for. Assumes nothing.
 use Prim.Native.Nat.{ℕ}
-use mathlib.Core.Path.{_≡_, refl, sym, ap, ap₂, _∙_, subst}
+use mathlib.Core.Path.{_≡_, refl, sym, ap, _∙_, subst}
 use mathlib.Core.List.{List, _∷_}
-use mathlib.Core.Logic.{⊎-elim, _↔_}
+use mathlib.Core.Logic.{⊎-elim}
 use native.Mathlib.Omega.{arith}
 use lib.ListN.{set, take}
 use Rattle.numbers.specs.Rules.{Rule, judged, First, NoneOf}

@@ -1,10 +1,8 @@
 -- The validator session, call by call (01, "The validator session" and "Numbers a call can answer").
 use Prim.Native.Nat.{ℕ, _+_}
-use mathlib.Core.Path.{_≡_, sym, _∙_}
-use mathlib.Core.Bool.{Bool, true, true≢false}
 use mathlib.Core.List.{List, [], _∷_}
 use lib.ListN.{length, take, set, replicate}
-use Rattle.numbers.specs.Rules.{Condition, Rule, under, atMost, within, same, either, both, isnt, judged, _gives_}
+use Rattle.numbers.specs.Rules.{Condition, Rule, says, under, atMost, within, same, either, both, isnt, judged, _gives_}
 use Rattle.numbers.specs.Put.{over}
 use Rattle.ccnet_frame.specs.Frame.{frame, judgeFrame, bodyOf}
 use Rattle.ccnet_frame.specs.Class.{classOf}
@@ -115,7 +113,7 @@ found s = foundIn (judgeFrame s) s
 
 -- "The gathering store is 255 bytes, all zero when fresh and again after each closing."
 abbrev pub zeros : List ℕ
-zeros = replicate 255 0
+zeros = replicate storeSize 0
 
 -- "a wrong check or a late frame sends a NAK frame and closes as damaged"
 unfoldable pub damagedStep : Line → List ℕ → LentAfter
@@ -190,10 +188,6 @@ tickStep l store ms r =
     judged (tickRefusals ms r) (λ why. lentAfter (refusedStep l why) store r) (acted (passed l ms .todo) (passed l ms .line) store r)
 
 -- ---- requests
-
--- a test that is true
-abbrev pub says : Bool → Condition
-says b = record { holds = b ≡ true; test = b; tells = record { shown = λ e. e; denied = λ e h. true≢false (sym h ∙ e) } }
 
 -- "Requests can meet 1 to 5": "the lowest that applies is given"
 unfoldable pub requestRefusals : Line → ℕ → List ℕ → List ℕ → List (Rule Declined)
