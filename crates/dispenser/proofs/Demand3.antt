@@ -1,6 +1,6 @@
 -- Demand 3, and the numbers 3, 4 and 5 of the history. Assumes nothing.
 use Prim.Native.Nat.{ℕ}
-use mathlib.Core.Path.{_≡_, refl, sym, _∙_}
+use mathlib.Core.Path.{refl, sym, _∙_}
 use mathlib.Core.Bool.{true}
 use mathlib.Core.List.{List, [], _∷_}
 use native.Mathlib.Omega.{arith}
@@ -10,7 +10,7 @@ use Rattle.ledger.specs.Events.{History}
 use Rattle.ledger.specs.Line.{isOpen as isOpenIn, quietTime, quietNeeded, accepted}
 use Rattle.ledger.specs.Account.{Ending, commands}
 use Rattle.ledger.proofs.Laws.{balanced}
-use Rattle.ledger.proofs.Follows.{OpenIn, IdleIn, At, follows-few}
+use Rattle.ledger.proofs.Follows.{OpenIn, At, follows-few}
 use Rattle.dispenser.specs.Limits.{quiet, commandLimit}
 use Rattle.dispenser.specs.Exchange.{isOpen}
 use Rattle.dispenser.specs.Session.{freshSession, requestRefusals}

@@ -16,7 +16,7 @@ use Rattle.dispenser_frame.specs.Answer.{answerCode, readAnswer}
 use Rattle.dispenser_frame.specs.declared.answer.AnswerRead.{AnswerRead}
 use Rattle.dispenser_frame.specs.declared.answer.AnswerRead.the-variants.{Read, Refused as NotRead}
 use Rattle.dispenser_frame.proofs.Codes.{length-known}
-use Rattle.dispenser.specs.Limits.{quiet, longQuiet, answerWait, nakWait, frameWait, handOvers, nakLimit, commandLimit}
+use Rattle.dispenser.specs.Limits.{quiet, answerWait, nakWait, frameWait, handOvers, nakLimit, commandLimit}
 use Rattle.dispenser.specs.Exchange.{isOpen, opened, handedAgain, closed, starting, inside, waits, firstByte, badFrame, startByte, gathered, heardIn, heard, expiredIn, expired, passed}
 use Rattle.dispenser.specs.Account.{freshSums, accountOpened, accountRefused, accountUnknown}
 use Rattle.dispenser.specs.Session.{StepAfter, ByteAfter, OpeningAfter, openingAfter, refusedOpening, acted, badStep, judgedStep, judgeStep, byteActed, byteRefusals, tickRefusals, requestRefusals, byteStep, tickStep, requestStep, command, bookedBy, requestBooked, freshSession, sessionRequest, sessionByte, sessionTick}

@@ -1,13 +1,11 @@
 -- What the account books is what the history gives: cassette by cassette, for each way in which a command opens and closes. Assumes nothing.
 use Prim.Native.Nat.{ℕ, _+_, _-_, _≤_}
 use mathlib.Core.Path.{_≡_, refl, sym, ap, _∙_, subst}
-use mathlib.Core.Bool.{Bool, true, false}
+use mathlib.Core.Bool.{Bool, false}
 use mathlib.Core.List.{List, []}
 use mathlib.Core.Logic.{⊎-elim}
 use native.Mathlib.Omega.{arith}
-use lib.ListN.{take, drop}
 use borrow.Author.Tests.{le-leb}
-use Rattle.numbers.specs.Rules.{judged}
 use Rattle.numbers.proofs.Rules.{first-judged, none-judged, first-or-none}
 use Rattle.ledger.specs.Account.{Totals, waiting, answered-by, turned-down, in-doubt, with-share}
 use Rattle.dispenser_frame.specs.Layout.{allInRange, allValues}

@@ -1,7 +1,7 @@
 -- After any calls at all the session stands where the history of the calls says: demand 3 of the session's own steps. Assumes nothing.
 use Prim.Native.Nat.{ℕ, _+_, _-_, _≤_, _<_}
 use mathlib.Core.Path.{_≡_, refl, sym, ap, _∙_, subst}
-use mathlib.Core.Bool.{Bool, true, false, cond}
+use mathlib.Core.Bool.{Bool, true, false}
 use mathlib.Core.List.{List, [], _∷_, _++_, append-assoc, append-nil}
 use mathlib.Core.Logic.{inl, inr}
 use native.Mathlib.Numerals.{add-one}
@@ -10,19 +10,18 @@ use lib.Dec.{lit≤}
 use lib.ListN.{length, take, set, length-set}
 use lib.Seq.{length-take-le, take-suc-set}
 use borrow.Author.Tests.{lt-ltb}
-use Rattle.numbers.specs.Rules.{says, under, atMost, same, _gives_, NoneOf}
+use Rattle.numbers.specs.Rules.{says, under, atMost, same}
 use Rattle.numbers.specs.Put.{laid, refused as not-put}
-use Rattle.numbers.proofs.Rules.{certain, holds-true, none-judged, Alike, alike-back, first-alike, none-alike}
+use Rattle.numbers.proofs.Rules.{certain, holds-true, none-judged}
 use Rattle.numbers.proofs.Writing.{take-over}
-use Rattle.ledger.specs.Events.{Deed, asks, hears, waits as passes, Left, goes-on, closes, Event, declined, done, History, isFrame, bytes, since}
+use Rattle.ledger.specs.Events.{Deed, asks, hears, waits as passes, goes-on, closes, done, History, isFrame, bytes, since}
 use Rattle.ledger.specs.Line.{isOpen as isOpenIn, quietTime, quietNeeded, accepted}
-use Rattle.ledger.specs.Account.{Ending, answered, refused, unknown, Totals, Fate, waiting, answered-by, Command, lastOf, counted, fateAfter, commands, with-share, totals, sums}
-use Rattle.ledger.specs.Sent.{AtMost, Again, Sends, Rightly}
+use Rattle.ledger.specs.Account.{Ending, answered, refused, unknown, answered-by, lastOf, commands, with-share, totals, sums}
+use Rattle.ledger.specs.Sent.{Sends}
 use Rattle.ledger.proofs.Laws.{last-of, OnLine, since-more}
 use Rattle.ledger.proofs.Follows.{Stage, idle, first, start, inside, View, Rules, OpenIn, IdleIn, At, Follows, declined-follows, open-still, idle-still, still-follows, open-kept, fate-by, again-follows, closes-follows, opened-follows}
-use Rattle.dispenser_frame.specs.Layout.{sizes}
-use Rattle.dispenser_frame.specs.Table.{known, commandFields, commandLength, answerLength}
-use Rattle.dispenser_frame.specs.Command.{countsFit, sendable, commandFrame, commandRefusals, writeCommand}
+use Rattle.dispenser_frame.specs.Table.{known, commandFields, answerLength}
+use Rattle.dispenser_frame.specs.Command.{sendable, commandFrame, commandRefusals, writeCommand}
 use Rattle.dispenser_frame.specs.Answer.{answerCode, readAnswer}
 use Rattle.dispenser_frame.specs.declared.answer.Cassette.{Cassette}
 use Rattle.dispenser_frame.specs.declared.answer.Cassette.the-variants.{Upper, Lower}
@@ -31,26 +30,23 @@ use Rattle.dispenser_frame.specs.declared.answer.AnswerRead.{AnswerRead}
 use Rattle.dispenser_frame.specs.declared.answer.AnswerRead.the-variants.{Read, Refused as NotRead}
 use Rattle.dispenser_frame.proofs.Codes.{length-known, command-most, answer-most}
 use Rattle.dispenser_frame.proofs.Trips.{command-length}
-use Rattle.dispenser.specs.Limits.{quiet, longQuiet, answerWait, nakWait, frameWait, handOvers, nakLimit, commandLimit}
+use Rattle.dispenser.specs.Limits.{quiet, longQuiet, answerWait, nakWait, frameWait, handOvers, nakLimit}
 use Rattle.dispenser.specs.Exchange.{isOpen, turn, closed, handedAgain, starting, inside as within, waits, opened, firstByte, badFrame, startByte, gathered, heardIn, heard, expiredIn, expired, passed}
-use Rattle.dispenser.specs.Account.{freshSums, freshAccount, accountOpened, accountAnswered}
+use Rattle.dispenser.specs.Account.{freshAccount, accountOpened}
 use Rattle.dispenser.specs.Session.{StepAfter, ByteAfter, OpeningAfter, stepAfter, byteAfter, refusedStep, doneAfter, openingAfter, refusedOpening, handOver, bytesPut, acted, badStep, judgedStep, judgeStep, byteActed, byteRefusals, tickRefusals, requestRefusals, byteStep, tickStep, requestStep, command, requestBooked, freshSession, sessionRequest, sessionByte, sessionTick}
 use Rattle.dispenser.specs.Calls.{Call, request, byte, tick, called, run, Open, Stands, settled, Sound}
-use Rattle.dispenser.specs.History.{Request, model2000T, layout, told, seen, deed, historyFrom, history, cassette, plain, quietAfter}
+use Rattle.dispenser.specs.History.{Request, model2000T, layout, told, seen, historyFrom, history, cassette, plain, quietAfter}
 use Rattle.dispenser.specs.declared.account.Account.{Account}
 use Rattle.dispenser.specs.declared.exchange.Phase.{Phase}
 use Rattle.dispenser.specs.declared.exchange.Phase.the-variants.{Idle, First, Start, Inside}
 use Rattle.dispenser.specs.declared.exchange.Line.{Line}
-use Rattle.dispenser.specs.declared.exchange.Todo.the-variants.{Nothing, Keep, Judge, HandOver, Nak, NakAndLose, Refuse, Lose}
+use Rattle.dispenser.specs.declared.exchange.Todo.the-variants.{Nothing, Keep, HandOver}
 use Rattle.dispenser.specs.declared.exchange.Turn.{Turn}
 use Rattle.dispenser.specs.declared.session.Asked.{Asked}
-use Rattle.dispenser.specs.declared.session.Declined.the-variants.{Open as OpenNow, Unquiet, Spent}
-use Rattle.dispenser.specs.declared.session.Closing.{Closing}
 use Rattle.dispenser.specs.declared.session.Closing.the-variants.{Nothing as NoClosing, Answered, Refused as GaveUp, Unknown}
 use Rattle.dispenser.specs.declared.session.Session.{Session}
 use Rattle.dispenser.proofs.Bounds.{pick, bounded-longer}
-use Rattle.dispenser.proofs.Exact.{exactly-when}
-use Rattle.dispenser.proofs.Keeping.{next, either-way, settled-most, called-sound, fresh-sound, always-sound}
+use Rattle.dispenser.proofs.Keeping.{next, either-way, settled-most, called-sound, fresh-sound}
 use Rattle.dispenser.proofs.Shown.{request-of, Roomy, Held, account-answered, account-refused, account-unknown, account-opened}
 
 -- ---- the session, as its history can tell

@@ -1,5 +1,5 @@
 -- Any calls at all, from a fresh session, and what every session that they lead to keeps (01, "What the proofs must leave no choice about").
-use Prim.Native.Nat.{ℕ, _+_, _-_, _*_, _≤_, _<_}
+use Prim.Native.Nat.{ℕ, _-_, _*_, _≤_, _<_}
 use mathlib.Core.Path.{_≡_}
 use mathlib.Core.List.{List, [], _∷_}
 use lib.ListN.{length}

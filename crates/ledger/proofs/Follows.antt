@@ -2,15 +2,15 @@
 -- looked at through a view: where its line stands, the command that is open and the sums that it keeps. Assumes nothing.
 use Prim.Native.Nat.{ℕ, _+_, _-_, _≤_}
 use mathlib.Core.Path.{_≡_, refl, sym, ap, _∙_, subst}
-use mathlib.Core.Bool.{Bool, true, false}
-use mathlib.Core.List.{List, [], _∷_, _++_, append-assoc, append-nil}
-use mathlib.Core.Logic.{inl, inr}
+use mathlib.Core.Bool.{true, false}
+use mathlib.Core.List.{List, [], _∷_, _++_}
+use mathlib.Core.Logic.{inr}
 use native.Mathlib.Omega.{arith}
-use Rattle.ledger.specs.Events.{Deed, asks, hears, waits, Left, goes-on, closes, Event, declined, done, History, isFrame, taken, bytes, since}
+use Rattle.ledger.specs.Events.{Deed, asks, hears, goes-on, closes, declined, done, History, isFrame, bytes, since}
 use Rattle.ledger.specs.Line.{isOpen, quietTime, quietNeeded, accepted}
 use Rattle.ledger.specs.Account.{Ending, answered, refused, unknown, Dispenser, Totals, Fate, waiting, Command, lastOf, counted, fateAfter, commands, with-share, totals, sums}
-use Rattle.ledger.specs.Sent.{AtMost, Again, Sends, Rightly}
-use Rattle.ledger.proofs.Laws.{OnLine, line-open, line-accepted, since-frame, since-more, closed-quiet, commands-still, commands-again, commands-closed}
+use Rattle.ledger.specs.Sent.{AtMost, Sends, Rightly}
+use Rattle.ledger.proofs.Laws.{OnLine, line-open, line-accepted, since-frame, closed-quiet, commands-still, commands-again, commands-closed}
 
 -- where a line stands: nothing is open; no byte has come since the hand-over; an answer is waited for; bytes of one are gathered
 pub data Stage : Type 0 where
