@@ -36,7 +36,7 @@ pick P c x y f g =
 -- a sum grows by no more than what is added
 plus-most : (a : Notes) (n : ℕ) → plus a n .0 ≤ a .0 + n
 unfolding plus
-plus-most a n = pick (λ (x : Notes). x .0 ≤ a .0 + n) (atMost (a .0 + n) 4_294_967_295) (notes (a .0 + n)) a (λ h. le-refl _) (λ h. omega arith)
+plus-most a n = pick (λ (x : Notes). x .0 ≤ a .0 + n) (atMost (a .0 + n) 4_294_967_295) _ _ (λ h. omega arith) (λ h. omega arith)
 
 -- ---- one cassette
 
@@ -105,7 +105,7 @@ module _ {n c d : ℕ} {s : Sums} (b : Bounded n c s) where
         paid-most = omega arith;
         short-most = omega arith;
         over-most = omega arith;
-        refused-most = omega arith;
+        refused-most = omega (arith, plus-most (s .refused) q);
         unknown-most = omega (arith, plus-most (s .unknown) q);
         pending-most = omega arith;
         rejected-most = omega arith;
@@ -180,13 +180,13 @@ module _ {n c d : ℕ} {x : Account} (b : Books n c x) where
     books-answered (Purged e) f h = books-longer (le-refl n) (omega arith)
     books-answered (PaidOne Upper k e o s r) f h =
         record {
-          upper = sums-answered (b .upper) (a .upper) e r (q .upper) (f .1 .0 .1) (f .1 .1 .1 .1 .0 .1) h;
+          upper = sums-answered (b .upper) (a .upper) _ _ (q .upper) (omega (arith, f .0 .1, f .1 .0 .1)) (omega (arith, f .1 .1 .1 .1 .0 .1)) h;
           lower = bounded-longer (b .lower) (le-refl n) (omega arith);
         }
     books-answered (PaidOne Lower k e o s r) f h =
         record {
           upper = bounded-longer (b .upper) (le-refl n) (omega arith);
-          lower = sums-answered (b .lower) (a .lower) e r (q .lower) (f .1 .0 .1) (f .1 .1 .1 .1 .0 .1) h;
+          lower = sums-answered (b .lower) (a .lower) _ _ (q .lower) (omega (arith, f .0 .1, f .1 .0 .1)) (omega (arith, f .1 .1 .1 .1 .0 .1)) h;
         }
     books-answered (PaidBoth uc ux lc lx o us ls ur lr) f h =
         record {

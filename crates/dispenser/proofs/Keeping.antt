@@ -16,7 +16,7 @@ use Rattle.dispenser_frame.specs.Answer.{answerCode, readAnswer}
 use Rattle.dispenser_frame.specs.declared.answer.AnswerRead.{AnswerRead}
 use Rattle.dispenser_frame.specs.declared.answer.AnswerRead.the-variants.{Read, Refused as NotRead}
 use Rattle.dispenser_frame.proofs.Codes.{length-known}
-use Rattle.dispenser.specs.Limits.{quiet, longQuiet, answerWait, nakWait, frameWait, handOvers, nakLimit, commandLimit}
+use Rattle.dispenser.specs.Limits.{quiet, answerWait, nakWait, frameWait, handOvers, nakLimit, commandLimit}
 use Rattle.dispenser.specs.Exchange.{isOpen, opened, handedAgain, closed, starting, inside, waits, firstByte, badFrame, startByte, gathered, heardIn, heard, expiredIn, expired, passed}
 use Rattle.dispenser.specs.Account.{freshSums, accountOpened, accountRefused, accountUnknown}
 use Rattle.dispenser.specs.Session.{StepAfter, ByteAfter, OpeningAfter, openingAfter, refusedOpening, acted, badStep, judgedStep, judgeStep, byteActed, byteRefusals, tickRefusals, requestRefusals, byteStep, tickStep, requestStep, command, bookedBy, requestBooked, freshSession, sessionRequest, sessionByte, sessionTick}
@@ -88,7 +88,7 @@ module _ (l : Line) (a : Asked) where
   waits-stands : (left : ℕ) (p : Phase) → Stands p l a → Stands p (waits l left) a
   waits-stands left Idle st = tt
   waits-stands left First st = open-on (waits l left) st (st .least) (st .most) (st .naks) refl
-  waits-stands left Start st = open-on (waits l left) st (st .least) (st .most) (st .naks) refl
+  waits-stands left Start st = (open-on (waits l left) (st .0) (st .0 .least) (st .0 .most) (st .0 .naks) refl, st .1)
   waits-stands left Inside st = (open-on (waits l left) (st .0) (st .0 .least) (st .0 .most) (st .0 .naks) refl, st .1, st .2)
 
   goes-on : (left : ℕ) → Stands (l .phase) l a → Still l (waits l left) a
@@ -103,7 +103,7 @@ module _ (l : Line) (a : Asked) (w : Live l a) where
   -- an answer is waited for
   starts : (left naks : ℕ) → naks < nakLimit → Still l (starting l left naks) a
   starts left naks h =
-      record { accepted = refl; count = sym (w .count); stands = open-on l a (starting l left naks) (w .is) (w .is .least) (w .is .most) h refl }
+      record { accepted = refl; count = sym (w .count); stands = (open-on l a (starting l left naks) (w .is) (w .is .least) (w .is .most) h refl, refl) }
 
   -- so many bytes of an answer are gathered
   gathers : (left got : ℕ) → 1 ≤ got → got < a .want → Still l (inside l left got) a
@@ -126,13 +126,13 @@ module _ (l : Line) (a : Asked) (w : Live l a) where
       pick (Turns l a) (same b 0x06) _ _
       (λ h. starts answerWait (l .naks) (w .is .naks))
       (λ n. pick (Turns l a) (same b 0x15) _ _
-      (λ h. pick (Turns l a) (under (l .handed) handOvers) _ _ (λ g. hands (l .handed + 1) (omega arith) (omega arith)) (λ g. closes quiet))
-      (λ m. closes longQuiet))
+      (λ h. pick (Turns l a) (under (l .handed) handOvers) _ _ (λ g. hands (l .handed + 1) (omega arith) (omega arith)) (λ g. closes _))
+      (λ m. closes _))
 
   bad-turns : Turns l a (badFrame l)
   unfolding badFrame
   bad-turns =
-      pick (Turns l a) (under (l .naks) (nakLimit - 1)) _ _ (λ h. starts nakWait (l .naks + 1) (omega arith)) (λ n. closes longQuiet)
+      pick (Turns l a) (under (l .naks) (nakLimit - 1)) _ _ (λ h. starts nakWait (l .naks + 1) (omega arith)) (λ n. closes _)
 
   start-turns : (b : ℕ) → Stands (l .phase) l a → Turns l a (startByte l b)
   unfolding startByte
@@ -153,7 +153,7 @@ module _ (l : Line) (a : Asked) (st : Stands (l .phase) l a) where
   live : (p : Phase) → l .phase ≡ p → isOpen p ≡ true → Live l a
   live Idle e o = let z : _≡_ {A = ℕ} 0 1 = cc in absurd (omega arith)
   live First e o = record { is = subst (λ (p : Phase). Stands p l a) e st; count = ap (λ (p : Phase). settled p (l .accepted)) e }
-  live Start e o = record { is = subst (λ (p : Phase). Stands p l a) e st; count = ap (λ (p : Phase). settled p (l .accepted)) e }
+  live Start e o = record { is = subst (λ (p : Phase). Stands p l a) e st .0; count = ap (λ (p : Phase). settled p (l .accepted)) e }
   live Inside e o = record { is = subst (λ (p : Phase). Stands p l a) e st .0; count = ap (λ (p : Phase). settled p (l .accepted)) e }
 
   -- a byte, and a tick
@@ -173,8 +173,8 @@ module _ (l : Line) (a : Asked) (st : Stands (l .phase) l a) where
     where
       by : (p : Phase) → l .phase ≡ p → Turns l a (expiredIn p l)
       by Idle e = goes-on l a 0 st
-      by First e = closes l a (live First e refl) longQuiet
-      by Start e = closes l a (live Start e refl) longQuiet
+      by First e = closes l a (live First e refl) _
+      by Start e = closes l a (live Start e refl) _
       by Inside e = bad-turns l a (live Inside e refl)
 
   passed-turns : (ms : ℕ) → Turns l a (passed l ms)

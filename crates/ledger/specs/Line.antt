@@ -1,8 +1,8 @@
 -- What the numbers 3, 4 and 5 speak of, read off a history (01, "Numbers a call can answer").
 use Prim.Native.Nat.{ℕ, _+_}
 use mathlib.Core.Bool.{Bool, true, false}
-use mathlib.Core.List.{List, [], _∷_}
-use Rattle.ledger.specs.Events.{Deed, asks, hears, waits, Left, goes-on, closes, Event, declined, done, History}
+use mathlib.Core.List.{[], _∷_}
+use Rattle.ledger.specs.Events.{asks, hears, waits, Left, goes-on, closes, declined, done, History}
 
 -- whether a command is open after a call; b tells whether one was before it, or that the call opened one
 abbrev pub stays : {K : Type 0} → Left K → Bool → Bool
