@@ -3,15 +3,14 @@ use Prim.Native.Nat.{ℕ, _+_, _-_, _≤_, _<_}
 use mathlib.Core.Path.{_≡_, refl, sym, ap, ap₂, _∙_, subst}
 use mathlib.Core.Bool.{true, false, cond}
 use mathlib.Core.List.{List, [], _∷_, _++_}
-use mathlib.Core.Logic.{_⊎_, ⊎-elim}
 use native.Mathlib.Omega.{arith}
 use lib.Dec.{eqb, lit≤}
 use lib.ListN.{length, set, take, replicate, length-append, length-replicate, getD-replicate}
 use lib.Seq.{take-at}
 use borrow.Author.Tests.{lt-ltb}
-use Rattle.numbers.specs.Rules.{Rule, under, same, judged, NoneOf}
+use Rattle.numbers.specs.Rules.{under, same, judged}
 use Rattle.numbers.specs.Put.{over}
-use Rattle.numbers.proofs.Rules.{holds-true, fails-false, cond-true, cond-false, first-judged, none-judged, first-or-none, Alike, alike-back, first-alike, none-alike}
+use Rattle.numbers.proofs.Rules.{pick, either-way, holds-true, fails-false, cond-true, cond-false, Alike, alike-back, first-alike, none-alike}
 use Rattle.numbers.proofs.Writing.{take-over}
 use Rattle.ccnet_frame.specs.Frame.{frame, judgeFrame, bodyOf}
 use Rattle.ccnet_frame.specs.Class.{classOf}
@@ -34,11 +33,10 @@ use Rattle.validator.specs.declared.line.Phase.the-variants.{Idle, Start
 use Rattle.validator.specs.declared.line.Line.{Line}
 use Rattle.validator.specs.declared.line.Todo.the-variants.{Nothing, Keep, Silence}
 use Rattle.validator.specs.declared.line.Turn.{Turn}
-use Rattle.validator.specs.declared.session.Declined.{Declined}
 use Rattle.validator.specs.declared.session.Session.{Session}
 use Rattle.validator.proofs.Past.{start-next, start-more, store-more, nothing-counted, counted-most}
 use Rattle.validator.proofs.Exact.{exactly-when}
-use Rattle.validator.proofs.Booking.{pick, Base, Fewer, answered-base, same-base}
+use Rattle.validator.proofs.Booking.{Base, Fewer, answered-base, same-base}
 
 -- ---- where the line stands
 
@@ -478,15 +476,6 @@ module _ (s : Session) (h : Past) (k : Agrees s h) where
         }
 
 -- ---- the calls
-
--- what holds of a call refused and of a call done holds of what was judged
-either-way : {A : Type 0} (P : A → Type 0) (rules : List (Rule Declined)) (refuse : Declined → A) (made : A)
-    → ((why : Declined) → P (refuse why)) → (NoneOf rules → P made) → P (judged rules refuse made)
-either-way P rules refuse made f g =
-    ⊎-elim
-    (λ h. subst P (sym (first-judged refuse made rules (h .0) (h .1))) (f (h .0)))
-    (λ n. subst P (sym (none-judged refuse made rules n)) (g n))
-    (first-or-none rules)
 
 module _ (s : Session) (h : Past) (k : Agrees s h) where
   -- a call that was declined
