@@ -295,7 +295,7 @@ impl Simulation {
         let mut slow = 0;
         if self.errs() {
             let last = frame.len() - 1;
-            match self.random.below(6) {
+            match self.random.below(7) {
                 0 => frame[last] ^= 1 << self.random.below(8),
                 1 => {
                     let place = self.random.below(last as u32 + 1) as usize;
@@ -308,6 +308,13 @@ impl Simulation {
                     frame.insert(place, byte);
                 }
                 4 => slow = self.random.pick(&[198, 199, 200, 201, 500]),
+                5 => {
+                    // one byte wrong under a check that is right
+                    let place = self.random.within(1, last as u32 - 1) as usize;
+                    let turned = 1 << self.random.below(8);
+                    frame[place] ^= turned;
+                    frame[last] ^= turned;
+                }
                 _ => frame = self.another_answer(),
             }
         }
@@ -374,15 +381,17 @@ impl Simulation {
         };
         if errs {
             let last = frame.len() - 1;
-            match self.random.below(9) {
+            match self.random.below(10) {
                 0 => return,
                 1 => at = self.now + self.random.pick(&[9, 10, 11]),
                 2 => frame[1] = self.random.pick(&[0x00, 0x01, 0x02, 0x04, 0x0F, 0x10]),
-                3 => frame[2] = self.random.pick(&[0x00, 0x05, 0x06, 0x07, 0x08, 0xFF]),
-                4 => frame[last - 1] ^= 1 << self.random.below(8),
-                5 => frame[last] ^= 1 << self.random.below(8),
-                6 => frame.truncate(self.random.within(1, last as u32) as usize),
-                7 => slow = self.random.pick(&[398, 399, 400, 401, 900]),
+                // a good frame of another address
+                3 => frame = ccnet_frame::write(self.random.pick(&[0x01, 0x02, 0x04, 0x0F]), &body).unwrap_or(frame),
+                4 => frame[2] = self.random.pick(&[0x00, 0x05, 0x06, 0x07, 0x08, 0xFF]),
+                5 => frame[last - 1] ^= 1 << self.random.below(8),
+                6 => frame[last] ^= 1 << self.random.below(8),
+                7 => frame.truncate(self.random.within(1, last as u32) as usize),
+                8 => slow = self.random.pick(&[398, 399, 400, 401, 900]),
                 _ => {
                     for _ in 0..self.random.within(1, 3) {
                         let byte = self.random.pick(&[0x00, 0x03, 0x06, 0xFF]);

@@ -6,12 +6,15 @@ use crate::generate::fill;
 use crate::random::Random;
 use crate::recording::{self, write};
 
+/// What appends a piece of a recording.
+pub type Piece = fn(&mut Random, &mut Vec<u8>);
+
 /// The kinds of recordings, by name.
-pub const LOADS: [(&str, fn(&mut Random, &mut Vec<u8>)); 4] =
+pub const LOADS: [(&str, Piece); 4] =
     [("dispenser", payment), ("validator", polling), ("ticks", ticks), ("mixed", mixed)];
 
 /// A recording of exactly so many bytes: pieces of one kind for as long as they fit, then ticks.
-pub fn load(piece: fn(&mut Random, &mut Vec<u8>), seed: u64, length: usize) -> Vec<u8> {
+pub fn load(piece: Piece, seed: u64, length: usize) -> Vec<u8> {
     let mut random = Random::new(seed);
     let mut bytes = Vec::new();
     loop {

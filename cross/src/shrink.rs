@@ -5,8 +5,19 @@ use crate::recording;
 /// How many candidates are tried at a time.
 const AT_ONCE: usize = 256;
 
-/// Shrinks a recording. `shows` says of each candidate whether it still shows the difference.
-pub fn shrink<E>(recording: Vec<u8>, mut shows: impl FnMut(&[Vec<u8>]) -> Result<Vec<bool>, E>) -> Result<Vec<u8>, E> {
+/// How many bytes are tried altogether: enough for any short recording, and a few seconds where only a long one shows it.
+const BUDGET: usize = 1 << 26;
+
+/// Shrinks a recording. `differ` says of each candidate whether it still shows the difference.
+pub fn shrink<E>(recording: Vec<u8>, mut differ: impl FnMut(&[Vec<u8>]) -> Result<Vec<bool>, E>) -> Result<Vec<u8>, E> {
+    let mut tried = 0;
+    let mut shows = |candidates: &[Vec<u8>]| {
+        if tried > BUDGET {
+            return Ok(vec![false; candidates.len()]);
+        }
+        tried += candidates.iter().map(Vec::len).sum::<usize>();
+        differ(candidates)
+    };
     let mut parts = records(&recording);
     loop {
         let before = parts.concat().len();

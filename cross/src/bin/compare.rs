@@ -17,6 +17,11 @@ struct Asked {
     command: Vec<OsString>,
 }
 
+/// How many lines of a recording are shown.
+const SHOWN: usize = 32;
+/// Where the recording that shows a difference is kept.
+const KEPT: &str = "difference.rec";
+
 const USAGE: &str = "usage: compare [--count N] [--seed N] [--batch N] -- COMMAND..";
 
 fn asked() -> Option<Asked> {
@@ -100,10 +105,15 @@ fn show(other: &Other, recording: Vec<u8>) -> io::Result<()> {
         Ok::<_, io::Error>(some.iter().zip(theirs).map(|(one, theirs)| report(one) != theirs).collect())
     })?;
     println!("a recording of {length} bytes shows it; the shortest found has {}:", shortest.len());
-    for line in shortest.chunks(32) {
+    for line in shortest.chunks(32).take(SHOWN) {
         let hex: Vec<String> = line.iter().map(|byte| format!("{byte:02X}")).collect();
         println!("  {}", hex.join(" "));
     }
+    if shortest.len() > 32 * SHOWN {
+        println!("  ..");
+    }
+    std::fs::write(KEPT, &shortest)?;
+    println!("it is kept in {KEPT}");
     println!("here:\n{}", report(&shortest));
     for theirs in other.reports(std::slice::from_ref(&shortest))? {
         println!("the other side:\n{theirs}");
