@@ -387,7 +387,12 @@ impl Simulation {
                 2 => frame[1] = self.random.pick(&[0x00, 0x01, 0x02, 0x04, 0x0F, 0x10]),
                 // a good frame of another address
                 3 => frame = ccnet_frame::write(self.random.pick(&[0x01, 0x02, 0x04, 0x0F]), &body).unwrap_or(frame),
-                4 => frame[2] = self.random.pick(&[0x00, 0x05, 0x06, 0x07, 0x08, 0xFF]),
+                4 => {
+                    frame[2] = self.random.pick(&[0x00, 0x04, 0x05, 0x05, 0x06, 0x07, 0x08, 0xFF]);
+                    if self.random.once_in(2) {
+                        frame.truncate(3);
+                    }
+                }
                 5 => frame[last - 1] ^= 1 << self.random.below(8),
                 6 => frame[last] ^= 1 << self.random.below(8),
                 7 => frame.truncate(self.random.within(1, last as u32) as usize),
