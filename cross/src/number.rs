@@ -18,18 +18,29 @@ const FIFTH: u8 = 0x0F;
 /// Reads the number at `at`, and says where the next byte stands.
 #[inline]
 pub fn read(bytes: &[u8], at: usize) -> Result<(u32, usize), Fault> {
-    let mut value = 0;
-    for k in 0..GROUPS {
+    match bytes.get(at) {
+        None => Err(Fault::Cut),
+        Some(&only) if only & MORE == 0 => Ok((u32::from(only), at + 1)),
+        Some(&first) => read_on(bytes, at, u32::from(first & !MORE)),
+    }
+}
+
+/// The number at `at`, whose first group asks for more.
+#[inline]
+fn read_on(bytes: &[u8], at: usize, first: u32) -> Result<(u32, usize), Fault> {
+    let mut value = first;
+    for k in 1..GROUPS {
         let Some(&byte) = bytes.get(at + k) else { return Err(Fault::Cut) };
+        let last = k == GROUPS - 1;
         if byte & MORE == 0 {
-            let long = k > 0 && byte == 0;
-            let large = k == GROUPS - 1 && byte > FIFTH;
-            if long || large {
+            let too_large = last && byte > FIFTH;
+            let too_long = byte == 0;
+            if too_large || too_long {
                 return Err(Fault::Bad);
             }
             return Ok((value | u32::from(byte) << (7 * k), at + k + 1));
         }
-        if k < GROUPS - 1 {
+        if !last {
             value |= u32::from(byte & !MORE) << (7 * k);
         }
     }
