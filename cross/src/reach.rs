@@ -7,67 +7,84 @@ use crate::recording;
 use crate::replay::{Bench, Played};
 use crate::validator::{self, Bill, Damage};
 
-/// What a recording can reach, and the least number of recordings that a whole run must have of it.
-const PLACES: [(&str, u32); 38] = [
-    ("dispenser: answered", 100),
-    ("dispenser: refused", 100),
-    ("dispenser: unknown, another first byte", 100),
-    ("dispenser: unknown, no first byte", 100),
-    ("dispenser: unknown, no answer after 06h", 100),
-    ("dispenser: unknown, no answer after our 15h", 100),
-    ("dispenser: unknown, third 15h, bad frame", 100),
-    ("dispenser: unknown, third 15h, late frame", 100),
-    ("dispenser: left open", 100),
-    ("dispenser: answered after a hand-over again", 100),
-    ("dispenser: answered after a 15h of ours", 100),
-    ("account: over", 100),
-    ("account: short", 100),
-    ("account: both cassettes in one command", 100),
-    ("account: rejects of a test", 100),
-    ("validator: acknowledged", 100),
-    ("validator: refused by NAK", 100),
-    ("validator: illegal", 100),
-    ("validator: answered", 100),
-    ("validator: damaged, address", 100),
-    ("validator: damaged, length", 100),
-    ("validator: damaged, check", 100),
-    ("validator: damaged, late", 100),
-    ("validator: silent", 100),
-    ("validator: bill credited", 100),
-    ("validator: bill repeated", 100),
-    ("validator: unknown body", 100),
-    ("declined: 2", 100),
-    ("declined: 3, dispenser", 100),
-    ("declined: 3, validator", 100),
-    ("declined: 4, dispenser", 100),
-    ("declined: 4, validator", 100),
-    ("declined: 6", 100),
-    ("recording: good", 100),
-    ("recording: bad 21", 100),
-    ("recording: bad 22", 100),
-    ("recording: bad 23", 100),
-    ("recording: bad 24", 1),
-];
+/// Declares the places and the table of their names.
+macro_rules! places {
+    ($($place:ident = $least:literal, $name:literal;)*) => {
+        /// What a recording can reach.
+        #[derive(Clone, Copy)]
+        enum Place {
+            $($place,)*
+        }
+
+        /// The name of each place, and how many recordings of a whole run must reach it.
+        const PLACES: &[(&str, u32)] = &[$(($name, $least),)*];
+        const COUNT: usize = PLACES.len();
+    };
+}
+
+places! {
+    Answered = 100, "dispenser: answered";
+    Refused = 100, "dispenser: refused";
+    OtherByte = 100, "dispenser: unknown, another first byte";
+    NoFirstByte = 100, "dispenser: unknown, no first byte";
+    NoAnswer = 100, "dispenser: unknown, no answer after 06h";
+    NoAnswerAgain = 100, "dispenser: unknown, no answer after our 15h";
+    ThirdBad = 100, "dispenser: unknown, third 15h, bad frame";
+    ThirdLate = 100, "dispenser: unknown, third 15h, late frame";
+    LeftOpen = 100, "dispenser: left open";
+    HandedOverAgain = 100, "dispenser: answered after a hand-over again";
+    AskedAgain = 100, "dispenser: answered after a 15h of ours";
+    Over = 100, "account: over";
+    Short = 100, "account: short";
+    BothCassettes = 100, "account: both cassettes in one command";
+    TestRejects = 100, "account: rejects of a test";
+    Acknowledged = 100, "validator: acknowledged";
+    RefusedByNak = 100, "validator: refused by NAK";
+    Illegal = 100, "validator: illegal";
+    AnsweredByBody = 100, "validator: answered";
+    DamagedAddress = 100, "validator: damaged, address";
+    DamagedLength = 100, "validator: damaged, length";
+    DamagedCheck = 100, "validator: damaged, check";
+    DamagedLate = 100, "validator: damaged, late";
+    Silent = 100, "validator: silent";
+    BillCredited = 100, "validator: bill credited";
+    BillRepeated = 100, "validator: bill repeated";
+    UnknownBody = 100, "validator: unknown body";
+    Declined2 = 100, "declined: 2";
+    Declined3Dispenser = 100, "declined: 3, dispenser";
+    Declined3Validator = 100, "declined: 3, validator";
+    Declined4Dispenser = 100, "declined: 4, dispenser";
+    Declined4Validator = 100, "declined: 4, validator";
+    Declined6 = 100, "declined: 6";
+    Good = 100, "recording: good";
+    Bad21 = 100, "recording: bad 21";
+    Bad22 = 100, "recording: bad 22";
+    Bad23 = 100, "recording: bad 23";
+    Bad24 = 1, "recording: bad 24";
+}
 
 /// Counts over a run.
 #[derive(Clone, Debug)]
 pub struct Reach {
-    counts: [u32; PLACES.len()],
+    counts: [u32; COUNT],
 }
 
 /// What one recording reached.
-struct Reached([bool; PLACES.len()]);
+struct Reached([bool; COUNT]);
 
 impl Reached {
-    fn mark(&mut self, name: &str) {
-        let place = PLACES.iter().position(|&(known, _)| known == name);
-        self.0[place.unwrap_or_else(|| panic!("no place '{name}'"))] = true;
+    fn nothing() -> Reached {
+        Reached([false; COUNT])
+    }
+
+    fn mark(&mut self, place: Place) {
+        self.0[place as usize] = true;
     }
 }
 
 impl Default for Reach {
     fn default() -> Reach {
-        Reach { counts: [0; PLACES.len()] }
+        Reach { counts: [0; COUNT] }
     }
 }
 
@@ -98,7 +115,7 @@ impl Reach {
 }
 
 fn reached(bytes: &[u8]) -> Reached {
-    let mut all = Reached([false; PLACES.len()]);
+    let mut all = Reached::nothing();
     let mut bench = Bench::fresh();
     let mut again = Again::default();
     let records = match recording::records(bytes) {
@@ -111,28 +128,28 @@ fn reached(bytes: &[u8]) -> Reached {
             Err(bad) => return faulty(bad.fault),
         }
     }
-    all.mark("recording: good");
+    all.mark(Place::Good);
     let account = bench.dispenser.account();
     let either = |sum: fn(&Sums) -> u32| sum(&account.upper) > 0 || sum(&account.lower) > 0;
     if either(|sums| sums.over) {
-        all.mark("account: over");
+        all.mark(Place::Over);
     }
     if either(|sums| sums.short) {
-        all.mark("account: short");
+        all.mark(Place::Short);
     }
     if either(|sums| sums.open) {
-        all.mark("dispenser: left open");
+        all.mark(Place::LeftOpen);
     }
     all
 }
 
 fn faulty(fault: recording::Fault) -> Reached {
-    let mut all = Reached([false; PLACES.len()]);
+    let mut all = Reached::nothing();
     all.mark(match fault {
-        recording::Fault::Number => "recording: bad 21",
-        recording::Fault::Cut => "recording: bad 22",
-        recording::Fault::Unknown => "recording: bad 23",
-        recording::Fault::TooLong => "recording: bad 24",
+        recording::Fault::Number => Place::Bad21,
+        recording::Fault::Cut => Place::Bad22,
+        recording::Fault::Unknown => Place::Bad23,
+        recording::Fault::TooLong => Place::Bad24,
     });
     all
 }
@@ -153,12 +170,12 @@ fn played(all: &mut Reached, again: &mut Again, record: recording::Record, playe
             validator(all, other);
         }
         Played::Declined(why) => all.mark(match (why, record) {
-            (Declined::Range, _) => "declined: 2",
-            (Declined::Open, recording::Record::Ask(_)) => "declined: 3, validator",
-            (Declined::Open, _) => "declined: 3, dispenser",
-            (Declined::Quiet, recording::Record::Ask(_)) => "declined: 4, validator",
-            (Declined::Quiet, _) => "declined: 4, dispenser",
-            (Declined::Tick, _) => "declined: 6",
+            (Declined::Range, _) => Place::Declined2,
+            (Declined::Open, recording::Record::Ask(_)) => Place::Declined3Validator,
+            (Declined::Open, _) => Place::Declined3Dispenser,
+            (Declined::Quiet, recording::Record::Ask(_)) => Place::Declined4Validator,
+            (Declined::Quiet, _) => Place::Declined4Dispenser,
+            (Declined::Tick, _) => Place::Declined6,
             (Declined::Spent, _) => unreachable!("no recording has room for 1,000,000 commands"),
         }),
     }
@@ -177,29 +194,29 @@ fn dispenser(all: &mut Reached, again: &mut Again, record: recording::Record, st
     match step.closing {
         None => {}
         Some(Closing::Answered(answer)) => {
-            all.mark("dispenser: answered");
+            all.mark(Place::Answered);
             if again.hand_overs > 1 {
-                all.mark("dispenser: answered after a hand-over again");
+                all.mark(Place::HandedOverAgain);
             }
             if again.naks > 0 {
-                all.mark("dispenser: answered after a 15h of ours");
+                all.mark(Place::AskedAgain);
             }
             match answer {
-                Answer::PaidBoth(..) => all.mark("account: both cassettes in one command"),
+                Answer::PaidBoth(..) => all.mark(Place::BothCassettes),
                 Answer::TestedUpper { rejects } | Answer::TestedLower { rejects } if rejects > 0 => {
-                    all.mark("account: rejects of a test")
+                    all.mark(Place::TestRejects)
                 }
                 _ => {}
             }
         }
-        Some(Closing::Refused) => all.mark("dispenser: refused"),
+        Some(Closing::Refused) => all.mark(Place::Refused),
         Some(Closing::Unknown(how)) => all.mark(match how {
-            Unknown::OtherByte => "dispenser: unknown, another first byte",
-            Unknown::Silence => "dispenser: unknown, no first byte",
-            Unknown::NoStart => "dispenser: unknown, no answer after 06h",
-            Unknown::NoStartAgain => "dispenser: unknown, no answer after our 15h",
-            Unknown::ThirdBad => "dispenser: unknown, third 15h, bad frame",
-            Unknown::ThirdLate => "dispenser: unknown, third 15h, late frame",
+            Unknown::OtherByte => Place::OtherByte,
+            Unknown::Silence => Place::NoFirstByte,
+            Unknown::NoStart => Place::NoAnswer,
+            Unknown::NoStartAgain => Place::NoAnswerAgain,
+            Unknown::ThirdBad => Place::ThirdBad,
+            Unknown::ThirdLate => Place::ThirdLate,
         }),
     }
 }
@@ -209,24 +226,24 @@ fn validator(all: &mut Reached, step: validator::Step) {
     use validator::Closing;
     match step.closing {
         None => {}
-        Some(Closing::Acknowledged) => all.mark("validator: acknowledged"),
-        Some(Closing::RefusedByNak) => all.mark("validator: refused by NAK"),
-        Some(Closing::Illegal) => all.mark("validator: illegal"),
+        Some(Closing::Acknowledged) => all.mark(Place::Acknowledged),
+        Some(Closing::RefusedByNak) => all.mark(Place::RefusedByNak),
+        Some(Closing::Illegal) => all.mark(Place::Illegal),
         Some(Closing::Answered(class)) => {
-            all.mark("validator: answered");
+            all.mark(Place::AnsweredByBody);
             if class == Class::Unknown {
-                all.mark("validator: unknown body");
+                all.mark(Place::UnknownBody);
             }
         }
-        Some(Closing::Damaged(Damage::Address)) => all.mark("validator: damaged, address"),
-        Some(Closing::Damaged(Damage::Length)) => all.mark("validator: damaged, length"),
-        Some(Closing::Damaged(Damage::Check)) => all.mark("validator: damaged, check"),
-        Some(Closing::Damaged(Damage::Late)) => all.mark("validator: damaged, late"),
-        Some(Closing::Silent) => all.mark("validator: silent"),
+        Some(Closing::Damaged(Damage::Address)) => all.mark(Place::DamagedAddress),
+        Some(Closing::Damaged(Damage::Length)) => all.mark(Place::DamagedLength),
+        Some(Closing::Damaged(Damage::Check)) => all.mark(Place::DamagedCheck),
+        Some(Closing::Damaged(Damage::Late)) => all.mark(Place::DamagedLate),
+        Some(Closing::Silent) => all.mark(Place::Silent),
     }
     match step.bill {
         None => {}
-        Some(Bill::Credited) => all.mark("validator: bill credited"),
-        Some(Bill::Repeated) => all.mark("validator: bill repeated"),
+        Some(Bill::Credited) => all.mark(Place::BillCredited),
+        Some(Bill::Repeated) => all.mark(Place::BillRepeated),
     }
 }
