@@ -183,8 +183,8 @@ module _ {n c d : ℕ} {x : Account} (b : Books n c x) where
         }
     books-answered (PaidBoth uc ux lc lx o us ls ur lr) f h =
         record {
-          upper = sums-answered (b .upper) (a .upper) ux ur (q .upper) (f .1 .0 .1) (f .1 .1 .1 .1 .1 .1 .1 .0 .1) h;
-          lower = sums-answered (b .lower) (a .lower) lx lr (q .lower) (f .1 .1 .1 .0 .1) (f .1 .1 .1 .1 .1 .1 .1 .1 .0 .1) h;
+          upper = sums-answered (b .upper) (a .upper) _ _ (q .upper) (omega (arith, f .0 .1, f .1 .0 .1)) (omega (arith, f .1 .1 .1 .1 .1 .1 .1 .0 .1)) h;
+          lower = sums-answered (b .lower) (a .lower) _ _ (q .lower) (omega (arith, f .1 .1 .0 .1, f .1 .1 .1 .0 .1)) (omega (arith, f .1 .1 .1 .1 .1 .1 .1 .1 .0 .1)) h;
         }
     books-answered (Tested Upper k o s r) f h =
         record { upper = sums-rejected (b .upper) r (f .1 .1 .1 .1 .1 .0 .1) h; lower = bounded-longer (b .lower) (le-refl n) (omega arith) }

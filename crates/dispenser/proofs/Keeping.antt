@@ -1,7 +1,7 @@
 -- Every session that calls lead to from a fresh one is sound, and so none of its sums is ever cut. Assumes nothing.
 use Prim.Native.Nat.{ℕ, _+_, _-_, _≤_, _<_}
 use mathlib.Core.Path.{_≡_, refl, sym, ap, _∙_, subst}
-use mathlib.Core.Bool.{true}
+use mathlib.Core.Bool.{Bool, true}
 use mathlib.Core.List.{List, [], _∷_}
 use native.Mathlib.Nat.{le-refl}
 use native.Mathlib.Omega.{arith}
@@ -12,12 +12,13 @@ use Rattle.numbers.proofs.Rules.{pick, either-way, certain, holds-true}
 use Rattle.dispenser_frame.specs.Table.{known, answerFields, answerLength}
 use Rattle.dispenser_frame.specs.Command.{sendable}
 use Rattle.dispenser_frame.specs.Answer.{answerCode, readAnswer}
+use Rattle.dispenser_frame.specs.declared.answer.Answer.{Answer}
 use Rattle.dispenser_frame.specs.declared.answer.AnswerRead.{AnswerRead}
 use Rattle.dispenser_frame.specs.declared.answer.AnswerRead.the-variants.{Read, Refused as NotRead}
 use Rattle.dispenser_frame.proofs.Codes.{length-known}
 use Rattle.dispenser.specs.Limits.{quiet, answerWait, nakWait, frameWait, handOvers, nakLimit, commandLimit}
 use Rattle.dispenser.specs.Exchange.{isOpen, opened, handedAgain, closed, starting, inside, waits, firstByte, badFrame, startByte, gathered, heardIn, heard, expiredIn, expired, passed}
-use Rattle.dispenser.specs.Account.{freshSums, accountOpened, accountRefused, accountUnknown}
+use Rattle.dispenser.specs.Account.{freshSums, accountOpened, accountRefused, accountUnknown, accountAnswered}
 use Rattle.dispenser.specs.Session.{StepAfter, ByteAfter, OpeningAfter, openingAfter, refusedOpening, acted, badStep, judgedStep, judgeStep, byteActed, byteRefusals, tickRefusals, requestRefusals, byteStep, tickStep, requestStep, command, bookedBy, requestBooked, freshSession, sessionRequest, sessionByte, sessionTick}
 use Rattle.dispenser.specs.Calls.{Call, request, byte, tick, called, run, Open, Stands, settled, Bounded, Sound, AlwaysSound, NeverCut}
 use Rattle.dispenser.specs.declared.account.Account.{Account}
@@ -232,13 +233,17 @@ module _ (s : Session) (k : Sound s) (w : Live (s .line) (s .asked)) (r : List �
   unfolding badStep
   bad-sound = acted-sound s k (badFrame (s .line) .line) (s .store) (k .store) (badFrame (s .line) .todo) r (bad-turns (s .line) (s .asked) w)
 
+  answered-sound : (frame : List ℕ) (answer : Answer) (listed : Bool) (need : ℕ) → readAnswer frame ≡ Read answer listed
+      → Sound (record { line = closed (s .line) need; asked = s .asked; account = accountAnswered (s .account) (s .asked) answer; store = s .store })
+  answered-sound frame answer listed need e =
+      let c = closes (s .line) (s .asked) w need in
+      closes-sound s k (closed (s .line) need) (s .store) (k .store) _ c
+      (books-answered (books s k) (s .asked) (c .modest) answer (answer-fits frame answer listed e) (c .count))
+
   judged-sound : (frame : List ℕ) (x : AnswerRead) → readAnswer frame ≡ x → Sound (next s (judgedStep x (s .line) (s .asked) r) (s .store))
   judged-sound frame (Read answer listed) e =
-      let c = closes (s .line) (s .asked) w quiet in
       pick (λ (v : StepAfter). Sound (next s v (s .store))) (same (answerCode answer) (s .asked .code)) _ _
-      (λ h.
-      closes-sound s k (closed (s .line) quiet) (s .store) (k .store) _ c
-      (books-answered (books s k) (s .asked) (c .modest) answer (answer-fits frame answer listed e) (c .count)))
+      (λ h. answered-sound frame answer listed _ e)
       (λ n. bad-sound)
   judged-sound frame (NotRead fault) e = bad-sound
 
