@@ -1,14 +1,14 @@
 -- No sum of the account grows by more than 99 when a command closes, and only the notes asked grow when one opens. Assumes nothing.
 use Prim.Native.Nat.{ℕ, _+_, _-_, _≤_, _<_}
-use mathlib.Core.Path.{_≡_, sym, subst}
-use mathlib.Core.Bool.{Bool, true, false, cond}
+use mathlib.Core.Path.{_≡_}
+use mathlib.Core.Bool.{Bool, true, false}
 use mathlib.Core.List.{List}
 use native.Mathlib.Nat.{le-refl}
 use native.Mathlib.Omega.{arith}
 use lib.ListN.{length}
-use Rattle.numbers.specs.Rules.{Condition, atMost}
+use Rattle.numbers.specs.Rules.{atMost}
 use Rattle.numbers.specs.Put.{over}
-use Rattle.numbers.proofs.Rules.{holds-true, fails-false, by-cases, certain, cond-true, cond-false}
+use Rattle.numbers.proofs.Rules.{certain, pick}
 use Rattle.numbers.proofs.Writing.{done-laid}
 use Rattle.dispenser_frame.specs.Layout.{allInRange}
 use Rattle.dispenser_frame.specs.Table.{table, lineIn, line, asks}
@@ -19,19 +19,12 @@ use Rattle.dispenser_frame.specs.declared.answer.Answer.{Answer}
 use Rattle.dispenser_frame.specs.declared.answer.Answer.the-variants.{Purged, PaidOne, PaidBoth, Tested, Status}
 use Rattle.dispenser_frame.specs.declared.answer.AnswerRead.the-variants.{Read}
 use Rattle.dispenser_frame.proofs.Trips.{answer-trips}
-use Rattle.dispenser.specs.Account.{notes, plus, sumsOpened, sumsAnswered, sumsRefused, sumsUnknown, sumsRejected, accountOpened, accountAnswered, accountRefused, accountUnknown}
+use Rattle.dispenser.specs.Account.{plus, sumsOpened, sumsAnswered, sumsRefused, sumsUnknown, sumsRejected, accountOpened, accountAnswered, accountRefused, accountUnknown}
 use Rattle.dispenser.specs.Calls.{Bounded}
 use Rattle.dispenser.specs.declared.account.Notes.{Notes}
 use Rattle.dispenser.specs.declared.account.Sums.{Sums}
 use Rattle.dispenser.specs.declared.account.Account.{Account}
 use Rattle.dispenser.specs.declared.session.Asked.{Asked}
-
--- what holds of both values that a condition's test picks between holds of the one picked
-pub pick : {A : Type 0} (P : A → Type 0) (c : Condition) (x y : A) → (c .holds → P x) → ((c .holds → ⊥) → P y) → P (cond (c .test) x y)
-pick P c x y f g =
-    by-cases c
-    (λ h. subst P (sym (cond-true x y (holds-true c h))) (f h))
-    (λ n. subst P (sym (cond-false x y (fails-false c n))) (g n))
 
 -- a sum grows by no more than what is added
 plus-most : (a : Notes) (n : ℕ) → plus a n .0 ≤ a .0 + n

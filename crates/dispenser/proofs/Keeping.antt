@@ -3,13 +3,12 @@ use Prim.Native.Nat.{ℕ, _+_, _-_, _≤_, _<_}
 use mathlib.Core.Path.{_≡_, refl, sym, ap, _∙_, subst}
 use mathlib.Core.Bool.{true}
 use mathlib.Core.List.{List, [], _∷_}
-use mathlib.Core.Logic.{⊎-elim}
 use native.Mathlib.Nat.{le-refl}
 use native.Mathlib.Omega.{arith}
 use lib.Dec.{lit≤, lit<}
 use lib.ListN.{length, set, take, length-set, length-replicate}
-use Rattle.numbers.specs.Rules.{Rule, under, same, judged, NoneOf}
-use Rattle.numbers.proofs.Rules.{certain, holds-true, first-judged, none-judged, first-or-none}
+use Rattle.numbers.specs.Rules.{under, same, NoneOf}
+use Rattle.numbers.proofs.Rules.{certain, holds-true, pick, either-way}
 use Rattle.dispenser_frame.specs.Table.{known, answerFields, answerLength}
 use Rattle.dispenser_frame.specs.Command.{sendable}
 use Rattle.dispenser_frame.specs.Answer.{answerCode, readAnswer}
@@ -29,9 +28,8 @@ use Rattle.dispenser.specs.declared.exchange.Todo.{Todo}
 use Rattle.dispenser.specs.declared.exchange.Todo.the-variants.{Nothing, Keep, Judge, HandOver, Nak, NakAndLose, Refuse, Lose}
 use Rattle.dispenser.specs.declared.exchange.Turn.{Turn}
 use Rattle.dispenser.specs.declared.session.Asked.{Asked}
-use Rattle.dispenser.specs.declared.session.Declined.{Declined}
 use Rattle.dispenser.specs.declared.session.Session.{Session}
-use Rattle.dispenser.proofs.Bounds.{pick, Modest, sent-modest, answer-fits, Books, books-longer, books-opened, books-refused, books-unknown, books-answered, bounded-longer}
+use Rattle.dispenser.proofs.Bounds.{Modest, sent-modest, answer-fits, Books, books-longer, books-opened, books-refused, books-unknown, books-answered, bounded-longer}
 
 -- ---- the line
 
@@ -268,15 +266,6 @@ module _ (s : Session) (k : Sound s) (m : Line) (at b : ℕ) (r : List ℕ) wher
   byte-sound Lose d = acted-sound s k m (s .store) (k .store) Lose r d
 
 -- ---- the calls
-
--- what holds of a call refused and of a call done holds of what was judged
-pub either-way : {A : Type 0} (P : A → Type 0) (rules : List (Rule Declined)) (refuse : Declined → A) (done : A)
-    → ((why : Declined) → P (refuse why)) → (NoneOf rules → P done) → P (judged rules refuse done)
-either-way P rules refuse done f g =
-    ⊎-elim
-    (λ h. subst P (sym (first-judged refuse done rules (h .0) (h .1))) (f (h .0)))
-    (λ n. subst P (sym (none-judged refuse done rules n)) (g n))
-    (first-or-none rules)
 
 -- with nothing open every command accepted has been closed
 idle-count : (p : Phase) (n : ℕ) → (isOpen p ≡ true → ⊥) → settled p n ≡ n

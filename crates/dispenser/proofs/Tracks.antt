@@ -10,9 +10,9 @@ use lib.Dec.{lit≤}
 use lib.ListN.{length, take, set, length-set}
 use lib.Seq.{length-take-le, take-suc-set}
 use borrow.Author.Tests.{lt-ltb}
-use Rattle.numbers.specs.Rules.{says, under, atMost, same}
+use Rattle.numbers.specs.Rules.{under, atMost, same}
 use Rattle.numbers.specs.Put.{laid, refused as not-put}
-use Rattle.numbers.proofs.Rules.{certain, holds-true, none-judged}
+use Rattle.numbers.proofs.Rules.{certain, holds-true, none-judged, pick, either-way}
 use Rattle.numbers.proofs.Writing.{take-over}
 use Rattle.ledger.specs.Events.{Deed, asks, hears, waits as passes, goes-on, closes, done, History, isFrame, bytes, since}
 use Rattle.ledger.specs.Line.{isOpen as isOpenIn, quietTime, quietNeeded, accepted}
@@ -45,8 +45,8 @@ use Rattle.dispenser.specs.declared.exchange.Turn.{Turn}
 use Rattle.dispenser.specs.declared.session.Asked.{Asked}
 use Rattle.dispenser.specs.declared.session.Closing.the-variants.{Nothing as NoClosing, Answered, Refused as GaveUp, Unknown}
 use Rattle.dispenser.specs.declared.session.Session.{Session}
-use Rattle.dispenser.proofs.Bounds.{pick, bounded-longer}
-use Rattle.dispenser.proofs.Keeping.{next, either-way, settled-most, called-sound, fresh-sound}
+use Rattle.dispenser.proofs.Bounds.{bounded-longer}
+use Rattle.dispenser.proofs.Keeping.{next, settled-most, called-sound, fresh-sound}
 use Rattle.dispenser.proofs.Shown.{request-of, Roomy, Held, account-answered, account-refused, account-unknown, account-opened}
 
 -- ---- the session, as its history can tell

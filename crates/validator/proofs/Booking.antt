@@ -1,6 +1,6 @@
 -- What an answer to a POLL leaves: the count of each type and what is remembered agree with the history. Assumes nothing.
 use Prim.Native.Nat.{ℕ, _+_, _≤_, _<_}
-use mathlib.Core.Path.{_≡_, refl, sym, ap, ap₂, _∙_, subst}
+use mathlib.Core.Path.{_≡_, refl, sym, ap, ap₂, _∙_}
 use mathlib.Core.Bool.{Bool, true, false, cond, not, _&&_}
 use mathlib.Core.List.{List, [], _∷_}
 use native.Mathlib.Omega.{arith}
@@ -8,8 +8,8 @@ use lib.Dec.{eqb}
 use lib.ListN.{length, getD, length-set}
 use lib.Seq.{getD-set-same, getD-set-other}
 use borrow.Author.Tests.{lt-ltb, le-leb, eq-eqb, ne-eqb}
-use Rattle.numbers.specs.Rules.{Condition, same, under}
-use Rattle.numbers.proofs.Rules.{by-cases, holds-true, fails-false, cond-true, cond-false}
+use Rattle.numbers.specs.Rules.{same, under}
+use Rattle.numbers.proofs.Rules.{by-cases, cond-true, cond-false, pick}
 use Rattle.ccnet_frame.specs.Class.{classOf}
 use Rattle.ccnet_frame.specs.declared.class.Class.{Class}
 use Rattle.ledger.specs.Events.{Event}
@@ -20,13 +20,6 @@ use Rattle.validator.specs.History.{Request, Ending, Past, lastCode, pol
 use Rattle.validator.specs.declared.bills.Bills.{Bills}
 use Rattle.validator.specs.declared.line.Line.{Line}
 use Rattle.validator.proofs.Past.{nothing-reported, nothing-counted, counted-one, counted-none, stacked-is}
-
--- what holds of both values that a condition's test picks between holds of the one picked
-pub pick : {A : Type 0} (P : A → Type 0) (c : Condition) (x y : A) → (c .holds → P x) → ((c .holds → ⊥) → P y) → P (cond (c .test) x y)
-pick P c x y f g =
-    by-cases c
-    (λ h. subst P (sym (cond-true x y (holds-true c h))) (f h))
-    (λ n. subst P (sym (cond-false x y (fails-false c n))) (g n))
 
 -- ---- one bill booked
 
