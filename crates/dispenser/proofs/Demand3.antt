@@ -18,7 +18,7 @@ use Rattle.dispenser.specs.Calls.{run}
 use Rattle.dispenser.specs.History.{Request, model2000T, history, Demand3, quietAfter, historyRefusals, DeclinesByHistory}
 use Rattle.dispenser.specs.declared.exchange.Phase.{Phase}
 use Rattle.dispenser.specs.declared.exchange.Phase.the-variants.{Idle, First, Start, Inside}
-use Rattle.dispenser.specs.declared.session.Declined.the-variants.{Open, Unquiet, Spent}
+use Rattle.ledger.specs.declared.Declined.the-variants.{Open, Unquiet, Spent}
 use Rattle.dispenser.specs.declared.session.Session.{Session}
 use Rattle.dispenser.proofs.Exact.{exactly-when}
 use Rattle.dispenser.proofs.Tracks.{stage, view, rules, Tracks, tracks}

@@ -19,7 +19,7 @@ use Rattle.dispenser.specs.declared.exchange.Line.{Line}
 use Rattle.dispenser.specs.declared.exchange.Todo.{Todo}
 use Rattle.dispenser.specs.declared.exchange.Todo.the-variants.{Nothing, Keep, Judge, HandOver, Nak, NakAndLose, Refuse, Lose}
 use Rattle.dispenser.specs.declared.session.Asked.{Asked}
-use Rattle.dispenser.specs.declared.session.Declined.{Declined}
+use Rattle.ledger.specs.declared.Declined.{Declined}
 use Rattle.dispenser.specs.declared.session.Reply.{Reply}
 use Rattle.dispenser.specs.declared.session.Reply.the-variants.{Refused, Done}
 use Rattle.dispenser.specs.declared.session.Closing.{Closing}

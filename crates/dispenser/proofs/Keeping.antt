@@ -7,8 +7,8 @@ use native.Mathlib.Nat.{le-refl}
 use native.Mathlib.Omega.{arith}
 use lib.Dec.{lit≤, lit<}
 use lib.ListN.{length, set, take, length-set, length-replicate}
-use Rattle.numbers.specs.Rules.{under, same, NoneOf}
-use Rattle.numbers.proofs.Rules.{certain, holds-true, pick, either-way}
+use Rattle.numbers.specs.Rules.{under, same, judged, NoneOf}
+use Rattle.numbers.proofs.Rules.{pick, either-way, certain, holds-true}
 use Rattle.dispenser_frame.specs.Table.{known, answerFields, answerLength}
 use Rattle.dispenser_frame.specs.Command.{sendable}
 use Rattle.dispenser_frame.specs.Answer.{answerCode, readAnswer}

@@ -22,8 +22,8 @@ use Rattle.dispenser.specs.Promises.{Declines}
 use Rattle.dispenser.specs.Calls.{Call, request, byte, tick, called, run}
 use Rattle.dispenser.specs.declared.account.Sums.{Sums}
 use Rattle.dispenser.specs.declared.account.Account.{Account}
-use Rattle.dispenser.specs.declared.session.Declined.{Declined}
-use Rattle.dispenser.specs.declared.session.Declined.the-variants.{Room, Range, Open, Unquiet, Spent}
+use Rattle.ledger.specs.declared.Declined.{Declined}
+use Rattle.ledger.specs.declared.Declined.the-variants.{Room, Range, Open, Unquiet, Spent}
 use Rattle.dispenser.specs.declared.session.Closing.{Closing}
 use Rattle.dispenser.specs.declared.session.Closing.the-variants.{Nothing, Answered, Refused as GaveUp, Unknown}
 use Rattle.dispenser.specs.declared.session.Reply.{Reply}

@@ -9,7 +9,7 @@ use lib.ListN.{length, getD, length-set}
 use lib.Seq.{getD-set-same, getD-set-other}
 use borrow.Author.Tests.{lt-ltb, le-leb, eq-eqb, ne-eqb}
 use Rattle.numbers.specs.Rules.{same, under}
-use Rattle.numbers.proofs.Rules.{by-cases, cond-true, cond-false, pick}
+use Rattle.numbers.proofs.Rules.{pick, by-cases, cond-true, cond-false}
 use Rattle.ccnet_frame.specs.Class.{classOf}
 use Rattle.ccnet_frame.specs.declared.class.Class.{Class}
 use Rattle.ledger.specs.Events.{Event}

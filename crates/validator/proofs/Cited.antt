@@ -6,11 +6,9 @@ use mathlib.Core.List.{List}
 use denote.Ref.{now}
 use Rattle.numbers.proofs.Tied.{Is}
 use Rattle.validator.specs.Bills.{bookedBy}
-use Rattle.validator.specs.Session.{declinedNumber, stepAfter, lentAfter, after, requestStep, byteStep, tickStep, freshSession, sessionByte}
+use Rattle.validator.specs.Session.{stepAfter, lentAfter, after, requestStep, byteStep, tickStep, freshSession, sessionByte}
 use Rattle.validator.specs.Calls.{request, byte, tick, called}
 use Rattle.validator.specs.declared.session.Session.{Session}
-use Rattle.validator.proofs.session.Declined.number.Kinds as number-kinds
-use Rattle.validator.proofs.session.Declined.number.Reads as number-reads
 use Rattle.validator.proofs.session.Session.fresh.Kinds as fresh-kinds
 use Rattle.validator.proofs.session.Session.fresh.Reads as fresh-reads
 use Rattle.validator.proofs.session.Session.request.Kinds as request-kinds
@@ -67,7 +65,3 @@ step-tick-cited κs a x e = refl
 booked-cited : Is booked-kinds.ps booked-kinds.r booked-reads.Post
     (λ κs a x e. x ≡ bookedBy (a .0) (a .1 .0))
 booked-cited κs a x e = refl
-
-number-cited : Is number-kinds.ps number-kinds.r number-reads.Post
-    (λ κs a x e. x ≡ declinedNumber (a .0))
-number-cited κs a x e = refl

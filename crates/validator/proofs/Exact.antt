@@ -18,7 +18,7 @@ use Rattle.validator.specs.Promises.{declinedAfter, Declines, ExactlyWhe
 use Rattle.validator.specs.declared.line.Line.{Line}
 use Rattle.validator.specs.declared.line.Todo.{Todo}
 use Rattle.validator.specs.declared.line.Todo.the-variants.{Nothing, Keep, Judge, Damage, Silence}
-use Rattle.validator.specs.declared.session.Declined.{Declined}
+use Rattle.ledger.specs.declared.Declined.{Declined}
 use Rattle.validator.specs.declared.session.Reply.{Reply}
 use Rattle.validator.specs.declared.session.Reply.the-variants.{Refused, Done}
 use Rattle.validator.specs.declared.session.Closing.{Closing}

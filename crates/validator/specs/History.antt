@@ -20,8 +20,8 @@ use Rattle.validator.specs.Promises.{Declines}
 use Rattle.validator.specs.Calls.{Call, request, byte, tick, called, run}
 use Rattle.validator.specs.declared.session.Closing.{Closing}
 use Rattle.validator.specs.declared.session.Closing.the-variants.{Nothing, Acknowledged, Refused as GaveUp, Illegal, Answered, Damaged, Silent}
-use Rattle.validator.specs.declared.session.Declined.{Declined}
-use Rattle.validator.specs.declared.session.Declined.the-variants.{Room, Range, Open, Unquiet, Spent}
+use Rattle.ledger.specs.declared.Declined.{Declined}
+use Rattle.ledger.specs.declared.Declined.the-variants.{Room, Range, Open, Unquiet, Spent}
 use Rattle.validator.specs.declared.session.Reply.{Reply}
 use Rattle.validator.specs.declared.session.Reply.the-variants.{Refused, Done}
 use Rattle.validator.specs.declared.session.Session.{Session}

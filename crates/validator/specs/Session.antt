@@ -16,8 +16,8 @@ use Rattle.validator.specs.Bills.{noBills, bookedBy, credited, remembere
 use Rattle.validator.specs.declared.line.Line.{Line}
 use Rattle.validator.specs.declared.line.Todo.{Todo}
 use Rattle.validator.specs.declared.line.Todo.the-variants.{Nothing as Rest, Keep, Judge, Damage, Silence}
-use Rattle.validator.specs.declared.session.Declined.{Declined}
-use Rattle.validator.specs.declared.session.Declined.the-variants.{Room, Range, Open, Unquiet, Spent, Tick}
+use Rattle.ledger.specs.declared.Declined.{Declined}
+use Rattle.ledger.specs.declared.Declined.the-variants.{Room, Range, Open, Unquiet, Spent, Tick}
 use Rattle.validator.specs.declared.session.Closing.{Closing}
 use Rattle.validator.specs.declared.session.Closing.the-variants.{Nothing, Acknowledged, Refused as GaveUp, Illegal, Answered, Damaged, Silent}
 use Rattle.validator.specs.declared.session.Reply.{Reply}
@@ -27,15 +27,6 @@ use Rattle.validator.specs.declared.session.Found.the-variants.{Bad, Goo
 use Rattle.validator.specs.declared.session.Step.{Step}
 use Rattle.validator.specs.declared.session.Session.{Session}
 use Rattle.validator.specs.declared.session.Outcome.{Outcome}
-
--- 01's number for each case
-abbrev pub declinedNumber : Declined → ℕ
-declinedNumber Room = 1
-declinedNumber Range = 2
-declinedNumber Open = 3
-declinedNumber Unquiet = 4
-declinedNumber Spent = 5
-declinedNumber Tick = 6
 
 -- "Commands (003): RESET 30h, POLL 33h, ENABLE BILL TYPES 34h with 6 data bytes, STACK 35h, RETURN 36h, HOLD 38h", and no data where none
 -- belongs

@@ -5,7 +5,7 @@ ghost use Prim.Native.Nat.{_≤_};
 ghost use lib.ListN.{length, set, take};
 ghost use Rattle.ccnet_frame.specs.Frame.{frame};
 ghost use Rattle.validator.specs.Bills.{stackedType, isPollAnswer, credited, remembered};
-ghost use Rattle.validator.specs.Session.{declinedNumber, isCommand, ack, nak, sent, sending, zeros, found, stepped, refusedStep, stepAfter, lentAfter, after, damagedStep, answeredStep, classStep, judgeStep, acted, byteStep, tickStep, requestStep, freshSession, sessionRequest, sessionByte, sessionTick};
+ghost use Rattle.validator.specs.Session.{isCommand, ack, nak, sent, sending, zeros, found, stepped, refusedStep, stepAfter, lentAfter, after, damagedStep, answeredStep, classStep, judgeStep, acted, byteStep, tickStep, requestStep, freshSession, sessionRequest, sessionByte, sessionTick};
 use crate::bills::Bills;
 use crate::bills::booked;
 use crate::line::Line;
@@ -16,39 +16,8 @@ use ccnet_frame::classify;
 use ccnet_frame::write_ack;
 use ccnet_frame::write_command;
 use ccnet_frame::write_nak;
+use ledger::Declined;
 use numbers::Put;
-
-// Why a call is declined.
-pub enum Declined {
-    // The room lent for sending is too small.
-    Room,
-    // The code is not among the commands, or the data are not what belongs to it.
-    Range,
-    // A command is open.
-    Open,
-    // The line has not been quiet long enough.
-    Unquiet,
-    // As many commands were accepted as may be.
-    Spent,
-    // A tick is not 1 to 1,000 ms.
-    Tick,
-}
-
-impl Declined {
-    // Document 01's number.
-    pub fn number(self) -> u8
-        ensures { λ r. ⌜ r ≡ declinedNumber self ⌝ }
-    {
-        match self {
-            Declined::Room => 1,
-            Declined::Range => 2,
-            Declined::Open => 3,
-            Declined::Unquiet => 4,
-            Declined::Spent => 5,
-            Declined::Tick => 6,
-        }
-    }
-}
 
 // How a call closed the open command, if it did.
 pub enum Closing {
