@@ -5,27 +5,29 @@ use mathlib.Core.Bool.{true, false, cond}
 use mathlib.Core.List.{List, [], _∷_, _++_}
 use native.Mathlib.Omega.{arith}
 use lib.Dec.{eqb, lit≤}
-use lib.ListN.{length, set, take, replicate, length-append, length-replicate, getD-replicate}
-use lib.Seq.{take-at}
+use lib.ListN.{length, getD, set, take, replicate, length-append, length-replicate, getD-replicate, List·getD-append}
+use lib.Seq.{take-at, getD-at}
 use borrow.Author.Tests.{lt-ltb}
-use Rattle.numbers.specs.Rules.{under, same, judged}
+use Rattle.numbers.specs.Rules.{under, same}
+use Rattle.numbers.specs.Promises.{Bytes}
 use Rattle.numbers.specs.Put.{over}
-use Rattle.numbers.proofs.Rules.{pick, either-way, holds-true, fails-false, cond-true, cond-false, Alike, alike-back, first-alike, none-alike}
+use Rattle.numbers.proofs.Rules.{holds-true, fails-false, by-cases, cond-true, cond-false, pick, either-way, Alike, alike-back, first-alike, none-alike}
 use Rattle.numbers.proofs.Writing.{take-over}
-use Rattle.ccnet_frame.specs.Frame.{frame, judgeFrame, bodyOf}
-use Rattle.ccnet_frame.specs.Class.{classOf}
+use Rattle.ccnet_frame.specs.Frame.{closed as with-check, frame, judgeFrame, bodyOf}
+use Rattle.ccnet_frame.specs.Class.{classOf, classBytes}
 use Rattle.ccnet_frame.specs.declared.frame.Judged.{Judged}
 use Rattle.ccnet_frame.specs.declared.frame.Judged.the-variants.{Good as Passed, Refused as Failed}
 use Rattle.ccnet_frame.specs.declared.class.Class.{Class}
 use Rattle.ccnet_frame.specs.declared.class.Class.the-variants.{Ack, Nak, Illegal, State, Busy, Rejecting, Failing, Escrow, Stacked, Returned, Unknown}
-use Rattle.ccnet_frame.proofs.Frames.{frame-length}
+use Rattle.ccnet_frame.proofs.Frames.{frame-length, good-frame}
+use Rattle.ccnet_frame.proofs.Classes.{classes}
 use Rattle.ledger.specs.Events.{Deed, asks, hears, waits, goes-on, closes, Event, declined, done, isFrame, since}
 use Rattle.ledger.specs.Line.{isOpen, quietTime, accepted}
 use Rattle.validator.specs.Limits.{quiet, frameWait, storeSize, commandLimit, types}
 use Rattle.validator.specs.Line.{isOpen as openIn, opened, closed, remembers, inside, waits as still, startByte, addressByte, lengthByte, furtherByte, gathered, heardIn, heard, expiredIn, expired, passed}
 use Rattle.validator.specs.Bills.{bills, bookedBy, poll, remembered}
 use Rattle.validator.specs.Session.{LentAfter, StepAfter, stepAfter, refusedStep, lentAfter, afterStep, zeros, damagedStep, answeredStep, classStep, foundIn, found, judgedStep, judgeStep, acted, byteActed, byteRefusals, tickRefusals, requestRefusals, byteStep, tickStep, requestStep, freshSession, sessionRequest, sessionByte, sessionTick}
-use Rattle.validator.specs.History.{Request, Ending, acknowledged, refused, illegal, answered, damaged, silent, Past, lastCode, fromStart, between, pollBody, reported, counted, gathered as so-far, told, seen, historyFrom, history, KeptByHistory, historyRefusals, DeclinesByHistory}
+use Rattle.validator.specs.History.{Request, Ending, acknowledged, refused, illegal, answered, damaged, silent, Past, lastCode, fromStart, between, pollBody, reported, counted, gathered as so-far, told, seen, historyFrom, history, Truly, KeptByHistory, historyRefusals, DeclinesByHistory}
 use Rattle.validator.specs.Calls.{Call, request, byte, tick, called, run}
 use Rattle.validator.specs.declared.bills.Bills.{Bills}
 use Rattle.validator.specs.declared.line.Phase.{Phase}
@@ -34,7 +36,7 @@ use Rattle.validator.specs.declared.line.Line.{Line}
 use Rattle.validator.specs.declared.line.Todo.the-variants.{Nothing, Keep, Silence}
 use Rattle.validator.specs.declared.line.Turn.{Turn}
 use Rattle.validator.specs.declared.session.Session.{Session}
-use Rattle.validator.proofs.Past.{start-next, start-more, store-more, nothing-counted, counted-most}
+use Rattle.validator.proofs.Past.{start-next, start-more, store-more, bytes-more, nothing-counted, counted-most}
 use Rattle.validator.proofs.Exact.{exactly-when}
 use Rattle.validator.proofs.Booking.{Base, Fewer, answered-base, same-base}
 
@@ -64,6 +66,8 @@ record Gathering (l : Line) (store : List ℕ) (h : Past) : Type 0 where
   less : l .got < l .want
   most : l .want ≤ storeSize
   untold : l .got ≤ 2 → l .want ≡ storeSize
+  named : 2 ≤ l .got → getD (fromStart (since h)) 1 0 ≡ 0x03
+  bytes : Bytes (fromStart (since h))
   bound : Fewer h
 
 abbrev Stands : Phase → Line → List ℕ → Past → Type 0
@@ -74,6 +78,7 @@ Stands Inside l store h = Gathering l store h
 record Agrees (s : Session) (h : Past) : Type 0 where
   base : Base (s .line) (s .bills) h
   stands : Stands (s .line .phase) (s .line) (s .store) h
+  truly : Truly h
 
 -- ---- a call that goes on, and one that closes
 
@@ -111,12 +116,18 @@ module _ (l : Line) (bs : List Bills) (h : Past) (base : Base l bs h) (fewer : F
         bound = λ y small. omega (arith, counted-most y e h, fewer y small, ends .as-many);
       }
 
-  closes-agrees : pollBody e h ≡ [] → Agrees (record { line = closed l; bills = bs; store = zeros }) (e ∷ h)
-  closes-agrees none =
+  closes-agrees : pollBody e h ≡ [] → Truly (e ∷ h) → Agrees (record { line = closed l; bills = bs; store = zeros }) (e ∷ h)
+  closes-agrees none truly =
       record {
         base = same-base l (closed l) bs h base refl refl refl e none (ends .as-many) (ends .as-coded);
         stands = rests (closed l) refl;
+        truly = truly;
       }
+
+-- the address stands behind 02h
+second : (a : ℕ) (body : List ℕ) → getD (frame a body) 1 0 ≡ a
+unfolding frame with-check
+second a body = refl
 
 -- ---- what is left by a step
 
@@ -138,21 +149,22 @@ module _ (s : Session) (h : Past) (k : Agrees s h) where
 
   module _ (fewer : Fewer h) (r : List ℕ) where
     heard-damaged : (b : ℕ) → Next s h (hears b) (damagedStep (closed l) r)
-    unfolding damagedStep bookedBy
-    heard-damaged b = closes-agrees l (s .bills) h (k .base) fewer _ (heard-ends h b _ damaged) refl
+    unfolding damagedStep bookedBy Truly
+    heard-damaged b = closes-agrees l (s .bills) h (k .base) fewer _ (heard-ends h b _ damaged) refl (tt, k .truly)
 
     waited-damaged : (ms : ℕ) → Next s h (waits ms) (damagedStep (closed l) r)
-    unfolding damagedStep bookedBy
-    waited-damaged ms = closes-agrees l (s .bills) h (k .base) fewer _ (waited-ends h ms _ damaged) refl
+    unfolding damagedStep bookedBy Truly
+    waited-damaged ms = closes-agrees l (s .bills) h (k .base) fewer _ (waited-ends h ms _ damaged) refl (k .truly)
 
     waited-silent : (ms : ℕ) → Next s h (waits ms) (acted Silence (closed l) (s .store) r)
-    unfolding bookedBy
-    waited-silent ms = closes-agrees l (s .bills) h (k .base) fewer _ (waited-ends h ms _ silent) refl
+    unfolding bookedBy Truly
+    waited-silent ms = closes-agrees l (s .bills) h (k .base) fewer _ (waited-ends h ms _ silent) refl (k .truly)
 
-    -- an answer that ends with b; its body is what stands between
-    module _ (b : ℕ) (body : List ℕ) (is : body ≡ between (fromStart (since h ++ (b ∷ [])))) where
+    -- an answer that ends with b: a frame, and its body is what stands between
+    module _ (b : ℕ) (body : List ℕ) (is : body ≡ between (fromStart (since h ++ (b ∷ []))))
+        (good : fromStart (since h ++ (b ∷ [])) ≡ frame 0x03 body) where
       heard-answered : Next s h (hears b) (answeredStep (closed l) (classOf body) r)
-      unfolding answeredStep
+      unfolding answeredStep Truly
       heard-answered =
           let e = told (hears b) (answeredStep (closed l) (classOf body) r .step .reply) (answeredStep (closed l) (classOf body) r .room) in
           let ends = heard-ends h b _ answered in
@@ -163,13 +175,22 @@ module _ (s : Session) (h : Past) (k : Agrees s h) where
                 (ap₂ (λ (c : ℕ) (x : List ℕ). cond (eqb c poll) x []) (sym (k .base .code-is)) (sym is))
                 m refl refl refl (ends .as-many) (ends .as-coded);
             stands = rests l (s .bills) h (k .base) fewer e ends m refl;
+            truly = (good ∙ ap (frame 0x03) is, k .truly);
           }
 
+      -- a body of a class other than unknown is the bytes of that class
+      heard-says : (c : Class) → c ≡ classOf body → (c ≡ Unknown → ⊥) → fromStart (since h ++ (b ∷ [])) ≡ frame 0x03 (classBytes c)
+      heard-says c e n =
+          good ∙ ap (frame 0x03) (sym (classes .again body (λ u. n (e ∙ u)) .1) ∙ ap classBytes (sym e))
+
       heard-class : (c : Class) → c ≡ classOf body → Next s h (hears b) (classStep c (closed l) r)
-      unfolding bookedBy
-      heard-class Ack e = closes-agrees l (s .bills) h (k .base) fewer _ (heard-ends h b _ acknowledged) refl
-      heard-class Nak e = closes-agrees l (s .bills) h (k .base) fewer _ (heard-ends h b _ refused) refl
-      heard-class Illegal e = closes-agrees l (s .bills) h (k .base) fewer _ (heard-ends h b _ illegal) refl
+      unfolding bookedBy Truly
+      heard-class Ack e =
+          closes-agrees l (s .bills) h (k .base) fewer _ (heard-ends h b _ acknowledged) refl (heard-says Ack e (λ u. let z : _≡_ {A = ℕ} 0 1 = cc in omega arith), k .truly)
+      heard-class Nak e =
+          closes-agrees l (s .bills) h (k .base) fewer _ (heard-ends h b _ refused) refl (heard-says Nak e (λ u. let z : _≡_ {A = ℕ} 0 1 = cc in omega arith), k .truly)
+      heard-class Illegal e =
+          closes-agrees l (s .bills) h (k .base) fewer _ (heard-ends h b _ illegal) refl (heard-says Illegal e (λ u. let z : _≡_ {A = ℕ} 0 1 = cc in omega arith), k .truly)
       heard-class (State x) e = subst (λ (c : Class). Next s h (hears b) (answeredStep (closed l) c r)) (sym e) heard-answered
       heard-class (Busy x) e = subst (λ (c : Class). Next s h (hears b) (answeredStep (closed l) c r)) (sym e) heard-answered
       heard-class (Rejecting x) e = subst (λ (c : Class). Next s h (hears b) (answeredStep (closed l) c r)) (sym e) heard-answered
@@ -180,17 +201,22 @@ module _ (s : Session) (h : Past) (k : Agrees s h) where
       heard-class Unknown e = subst (λ (c : Class). Next s h (hears b) (answeredStep (closed l) c r)) (sym e) heard-answered
 
     -- a full frame, good or bad
-    heard-full : (b : ℕ) (f : List ℕ) → f ≡ fromStart (since h ++ (b ∷ [])) → Next s h (hears b) (judgedStep (found f) (closed l) r)
+    heard-full : (b : ℕ) (f : List ℕ) → f ≡ fromStart (since h ++ (b ∷ [])) → getD f 1 0 ≡ 0x03 → Bytes f
+        → Next s h (hears b) (judgedStep (found f) (closed l) r)
     unfolding found between
-    heard-full b f is = by (judgeFrame f) refl
+    heard-full b f is named bytes = by (judgeFrame f) refl
       where
         by : (j : Judged) → judgeFrame f ≡ j → Next s h (hears b) (judgedStep (foundIn j f) (closed l) r)
-        by (Passed a) e = heard-class b (bodyOf f) (rw e (ap between is)) (classOf (bodyOf f)) refl
+        by (Passed a) e =
+            let good = good-frame f a e bytes in
+            let three : a ≡ 0x03 = sym (second a (bodyOf f)) ∙ ap (λ (x : List ℕ). getD x 1 0) good ∙ named in
+            heard-class b (bodyOf f) (rw e (ap between is)) (sym is ∙ sym good ∙ ap (λ (n : ℕ). frame n (bodyOf f)) three)
+            (classOf (bodyOf f)) refl
         by (Failed fault) e = heard-damaged b
 
   -- ---- a byte that closes nothing
 
-  module _ (b : ℕ) where
+  module _ (b : ℕ) (small : b < 256) where
     -- the call, as a caller knows it
     abbrev came : Event Request Ending
     came = done (hears b) [] goes-on
@@ -206,6 +232,10 @@ module _ (s : Session) (h : Past) (k : Agrees s h) where
     came-fewer : Fewer h → Fewer (came ∷ h)
     unfolding accepted
     came-fewer f = fewer-still came h refl refl f
+
+    came-truly : Truly (came ∷ h)
+    unfolding Truly
+    came-truly = (tt, k .truly)
 
     came-since : since (came ∷ h) ≡ since h ++ (b ∷ [])
     unfolding since isFrame
@@ -245,6 +275,8 @@ module _ (s : Session) (h : Past) (k : Agrees s h) where
           less = lit≤ tt;
           most = lit≤ tt;
           untold = λ u. refl;
+          named = λ u. absurd (omega arith);
+          bytes = subst Bytes (sym f) (bytes-more [] b (λ i. lit≤ tt) small);
           bound = came-fewer (st .bound);
         }
 
@@ -263,10 +295,20 @@ module _ (s : Session) (h : Past) (k : Agrees s h) where
           ap₂ (λ (x : List ℕ) (n : ℕ). set x n b) (st .filled) (sym (st .size))
           ∙ store-more before b (storeSize - l .got) (omega (arith, st .less, st .most))
 
+      came-bytes : Bytes (before ++ (b ∷ []))
+      came-bytes = bytes-more before b (st .bytes) small
+
+      -- the second byte is the address
+      came-named : (l .got ≡ 1 → b ≡ 0x03) → 1 ≤ l .got → getD (before ++ (b ∷ [])) 1 0 ≡ 0x03
+      came-named address h =
+          by-cases (same (l .got) 1)
+          (λ g. getD-at before b [] 0 1 (st .size ∙ g) ∙ address g)
+          (λ n. List·getD-append before (b ∷ []) 0 1 (omega (arith, n, st .size)) ∙ st .named (omega (arith, n)))
+
       -- one byte more of an answer
-      came-kept : (n want : ℕ) → n ≡ l .got + 1 → n < want → want ≤ storeSize → (n ≤ 2 → want ≡ storeSize)
+      came-kept : (n want : ℕ) → n ≡ l .got + 1 → n < want → want ≤ storeSize → (n ≤ 2 → want ≡ storeSize) → (n ≡ 2 → b ≡ 0x03)
           → Gathering (inside l (l .left) n want) (set (s .store) (l .got) b) (came ∷ h)
-      came-kept n want e less most untold =
+      came-kept n want e less most untold address =
           let f : fromStart (since (came ∷ h)) ≡ before ++ (b ∷ []) = ap fromStart came-since ∙ came-from in
           let m : storeSize - l .got - 1 ≡ storeSize - n = omega arith in
           record {
@@ -277,6 +319,8 @@ module _ (s : Session) (h : Past) (k : Agrees s h) where
             less = less;
             most = most;
             untold = untold;
+            named = λ u. ap (λ (x : List ℕ). getD x 1 0) f ∙ came-named (λ g. address (omega arith)) (omega arith);
+            bytes = subst Bytes (sym f) came-bytes;
             bound = came-fewer (st .bound);
           }
 
@@ -289,7 +333,7 @@ module _ (s : Session) (h : Past) (k : Agrees s h) where
 
     -- ---- a byte, by where the line stands
 
-    module _ (small : b < 256) (r : List ℕ) where
+    module _ (r : List ℕ) where
       -- what a turn of the line leads to
       abbrev After : Turn → Type 0
       After t = Next s h (hears b) (byteActed (t .todo) (t .line) (l .want) (s .store) (l .got) b r)
@@ -300,31 +344,37 @@ module _ (s : Session) (h : Past) (k : Agrees s h) where
           record {
             base = came-base (still l quiet) refl refl refl;
             stands = subst (λ (q : Phase). Stands q (still l quiet) (s .store) (came ∷ h)) (sym p) (came-resting st);
+            truly = came-truly;
           }
 
       after-start : l .phase ≡ Start → Awaiting l (s .store) h → After (startByte l b)
       unfolding startByte bookedBy
       after-start p st =
           pick After (same b 0x02) _ _
-          (λ e. record { base = came-base (inside l frameWait 1 storeSize) refl refl refl; stands = came-started st e })
+          (λ e. record { base = came-base (inside l frameWait 1 storeSize) refl refl refl; stands = came-started st e; truly = came-truly })
           (λ n.
           record {
             base = came-base (still l (l .left)) refl refl refl;
             stands = subst (λ (q : Phase). Stands q (still l (l .left)) (s .store) (came ∷ h)) (sym p) (came-skipped st n);
+            truly = came-truly;
           })
 
       module _ (st : Gathering l (s .store) h) where
-        kept : (n want : ℕ) → n ≡ l .got + 1 → n < want → want ≤ storeSize → (n ≤ 2 → want ≡ storeSize)
+        kept : (n want : ℕ) → n ≡ l .got + 1 → n < want → want ≤ storeSize → (n ≤ 2 → want ≡ storeSize) → (n ≡ 2 → b ≡ 0x03)
             → Next s h (hears b) (byteActed Keep (inside l (l .left) n want) (l .want) (s .store) (l .got) b r)
         unfolding bookedBy
-        kept n want e less most untold =
-            record { base = came-base (inside l (l .left) n want) refl refl refl; stands = came-kept st n want e less most untold }
+        kept n want e less most untold address =
+            record {
+              base = came-base (inside l (l .left) n want) refl refl refl;
+              stands = came-kept st n want e less most untold address;
+              truly = came-truly;
+            }
 
         after-address : l .got ≡ 1 → After (addressByte l b)
         unfolding addressByte
         after-address g =
             pick After (same b 0x03) _ _
-            (λ e. kept 2 (l .want) (omega arith) (omega (arith, st .untold (omega arith))) (st .most) (λ u. st .untold (omega arith)))
+            (λ e. kept 2 (l .want) (omega arith) (omega (arith, st .untold (omega arith))) (st .most) (λ u. st .untold (omega arith)) (λ u. e))
             (λ n. heard-damaged (st .bound) r b)
 
         after-length : l .got ≡ 2 → After (lengthByte l b)
@@ -332,7 +382,7 @@ module _ (s : Session) (h : Past) (k : Agrees s h) where
         after-length g =
             pick After (under b 6) _ _
             (λ e. heard-damaged (st .bound) r b)
-            (λ n. kept 3 b (omega arith) (omega (arith, least n)) (omega arith) (λ u. absurd (omega arith)))
+            (λ n. kept 3 b (omega arith) (omega (arith, least n)) (omega arith) (λ u. absurd (omega arith)) (λ u. absurd (omega arith)))
           where
             least : (b < 6 → ⊥) → 6 ≤ b
             least n = omega arith
@@ -341,8 +391,13 @@ module _ (s : Session) (h : Past) (k : Agrees s h) where
         unfolding furtherByte judgeStep
         after-further g f =
             pick After (under (l .got + 1) (l .want)) _ _
-            (λ e. kept (l .got + 1) (l .want) refl e (st .most) (λ u. absurd (omega (arith, st .least, g, f))))
-            (λ n. heard-full (st .bound) r b (take (l .want) (set (s .store) (l .got) b)) (came-full st (omega (arith, st .less, n))))
+            (λ e. kept (l .got + 1) (l .want) refl e (st .most) (λ u. absurd (omega (arith, st .least, g, f))) (λ u. absurd (omega (arith, g))))
+            (λ n.
+            let whole = came-full st (omega (arith, st .less, n)) in
+            let is = whole ∙ came-from st in
+            heard-full (st .bound) r b (take (l .want) (set (s .store) (l .got) b)) whole
+            (ap (λ (x : List ℕ). getD x 1 0) is ∙ came-named st (λ q. absurd (g q)) (st .least))
+            (subst Bytes (sym is) (came-bytes st)))
 
         after-inside : After (gathered l b)
         unfolding gathered
@@ -377,6 +432,10 @@ module _ (s : Session) (h : Past) (k : Agrees s h) where
         append-nil [] = refl
         append-nil (a ∷ x) = ap (λ (y : List ℕ). a ∷ y) (append-nil x)
 
+    went-truly : Truly (went ∷ h)
+    unfolding Truly
+    went-truly = k .truly
+
     went-open : isOpen (went ∷ h) ≡ isOpen h
     unfolding isOpen
     went-open = refl
@@ -407,6 +466,8 @@ module _ (s : Session) (h : Past) (k : Agrees s h) where
           less = st .less;
           most = st .most;
           untold = st .untold;
+          named = λ u. ap (λ (x : List ℕ). getD (fromStart x) 1 0) went-since ∙ st .named u;
+          bytes = subst (λ (x : List ℕ). Bytes (fromStart x)) (sym went-since) (st .bytes);
           bound = went-fewer (st .bound);
         }
 
@@ -416,7 +477,12 @@ module _ (s : Session) (h : Past) (k : Agrees s h) where
 
       goes : (left : ℕ) → left ≡ l .left - ms → Next s h (waits ms) (acted Nothing (still l left) (s .store) r)
       unfolding bookedBy
-      goes left e = record { base = went-base (still l left) refl refl refl; stands = went-stands left e (l .phase) (k .stands) }
+      goes left e =
+          record {
+            base = went-base (still l left) refl refl refl;
+            stands = went-stands left e (l .phase) (k .stands);
+            truly = went-truly;
+          }
 
       after-expired : l .left ≤ ms → Passed-by (expired l)
       unfolding expired
@@ -453,7 +519,7 @@ module _ (s : Session) (h : Past) (k : Agrees s h) where
 
     wrote-agrees : Resting l (s .store) h → l .accepted < commandLimit
         → Agrees (record { line = opened l code (l .accepted + 1); bills = s .bills; store = s .store }) (wrote ∷ h)
-    unfolding isOpen accepted lastCode reported counted classOf fromStart
+    unfolding isOpen accepted lastCode reported counted classOf fromStart Truly
     wrote-agrees st f =
         record {
           base =
@@ -473,6 +539,7 @@ module _ (s : Session) (h : Past) (k : Agrees s h) where
                 nothing = refl;
                 bound = λ y small. omega (arith, st .bound y small);
               };
+          truly = k .truly;
         }
 
 -- ---- the calls
@@ -493,11 +560,13 @@ module _ (s : Session) (h : Past) (k : Agrees s h) where
         less = st .less;
         most = st .most;
         untold = st .untold;
+        named = st .named;
+        bytes = st .bytes;
         bound = st .bound;
       }
 
   declined-agrees : Agrees s (declined ∷ h)
-  unfolding accepted lastCode reported counted classOf
+  unfolding accepted lastCode reported counted classOf Truly
   declined-agrees =
       record {
         base =
@@ -510,6 +579,7 @@ module _ (s : Session) (h : Past) (k : Agrees s h) where
               counts = k .base .counts;
             };
         stands = declined-stands (s .line .phase) (k .stands);
+        truly = k .truly;
       }
 
   request-agrees : (code : ℕ) (given r : List ℕ)
@@ -545,7 +615,7 @@ called-agrees s h (byte b small r) k = byte-agrees s h k b small r
 called-agrees s h (tick ms r) k = tick-agrees s h k ms r
 
 fresh-agrees : Agrees freshSession []
-unfolding freshSession isOpen quietTime accepted lastCode reported counted classOf
+unfolding freshSession isOpen quietTime accepted lastCode reported counted classOf Truly
 fresh-agrees =
     record {
       base =
@@ -558,6 +628,7 @@ fresh-agrees =
             counts = λ y small. ap (λ (x : Bills). x .0) (getD-replicate types y (bills 0) (bills 0) small);
           };
       stands = record { shut = refl; clean = refl; missing = refl; bound = λ y small. lit≤ tt };
+      truly = tt;
     }
 
 -- after any calls at all
@@ -600,6 +671,7 @@ kept-by-history =
       store = λ cs.
           let s = run freshSession cs in
           store-is (s .line) (s .store) (history cs) (s .line .phase) (always-agrees cs .stands);
+      closings = λ cs. always-agrees cs .truly;
     }
 
 -- ---- the numbers of a request

@@ -6,8 +6,9 @@ use mathlib.Core.List.{List, [], _∷_, _++_}
 use mathlib.Core.Logic.{_↔_}
 use native.Mathlib.Omega.{arith}
 use native.Mathlib.Nat.{le-refl}
-use lib.Dec.{eqb}
+use lib.Dec.{eqb, lit<}
 use lib.ListN.{length, set, replicate}
+use Rattle.numbers.specs.Promises.{Bytes}
 use Rattle.numbers.proofs.Rules.{holds-true, fails-false, cond-true, cond-false}
 use Rattle.ccnet_frame.specs.Class.{classOf, classBytes}
 use Rattle.ccnet_frame.specs.declared.class.Class.{Class}
@@ -51,6 +52,14 @@ store-more [] b (suc k) h =
     let e : suc k - 1 ≡ k = omega arith in
     rw e
 store-more (a ∷ g) b k h = ap (λ (s : List ℕ). a ∷ s) (store-more g b k h)
+
+-- ---- bytes
+
+pub bytes-more : (g : List ℕ) (b : ℕ) → Bytes g → b < 256 → Bytes (g ++ (b ∷ []))
+bytes-more [] b bytes small zero = small
+bytes-more [] b bytes small (suc i) = lit< tt
+bytes-more (a ∷ g) b bytes small zero = bytes 0
+bytes-more (a ∷ g) b bytes small (suc i) = bytes-more g b (λ j. bytes (suc j)) small i
 
 -- ---- answers
 

@@ -9,6 +9,7 @@ use native.Mathlib.Omega.{arith}
 use lib.Dec.{eqb}
 use lib.ListN.{length, getD, take, drop, replicate}
 use Rattle.numbers.specs.Rules.{Tells, Condition, Rule, First, NoneOf, says, under, atMost, same, both, isnt, and-tells, _gives_}
+use Rattle.ccnet_frame.specs.Frame.{frame}
 use Rattle.ccnet_frame.specs.Class.{classOf}
 use Rattle.ledger.specs.Events.{Deed, asks, hears, waits, Left, goes-on, closes, Event, declined, done, History, since}
 use Rattle.ledger.specs.Line.{isOpen, quietTime, accepted}
@@ -158,15 +159,38 @@ unfoldable pub counted : ℕ → Past → ℕ
 counted y [] = 0
 counted y (e ∷ h) = cond (adds y e h .test) (counted y h + 1) (counted y h)
 
+-- what the bytes say that ended with a closing: ACK, NAK, "illegal" and any other answer are frames as the layout has them, from address 03h
+abbrev pub Says : Ending → List ℕ → Type 0
+Says acknowledged f = f ≡ frame 0x03 (0x00 ∷ [])
+Says refused f = f ≡ frame 0x03 (0xFF ∷ [])
+Says illegal f = f ≡ frame 0x03 (0x30 ∷ [])
+Says answered f = f ≡ frame 0x03 (between f)
+Says damaged f = Unit {0}
+Says silent f = Unit {0}
+
+abbrev pub SaysOnce : Left Ending → List ℕ → Type 0
+SaysOnce goes-on f = Unit {0}
+SaysOnce (closes k) f = Says k f
+
+-- every closing that a call returned is what the bytes said
+unfoldable pub Truly : Past → Type 0
+Truly [] = Unit {0}
+Truly (declined ∷ h) = Truly h
+Truly (done (asks q) put left ∷ h) = Truly h
+Truly (done (hears b) put left ∷ h) = SaysOnce left (fromStart (since h ++ (b ∷ []))) × Truly h
+Truly (done (waits ms) put left ∷ h) = Truly h
+
 -- ---- what is promised, from a fresh session and after any calls at all
 
--- the count of each type is what the history gives, so that none is ever cut; it is at most the number of commands that may be accepted; and
--- the gathering store holds the bytes gathered from 02h on, and then zeros: "all zero when fresh and again after each closing"
+-- the count of each type is what the history gives, so that none is ever cut; it is at most the number of commands that may be accepted; the
+-- gathering store holds the bytes gathered from 02h on, and then zeros: "all zero when fresh and again after each closing"; and every closing
+-- is what the bytes said
 pub record KeptByHistory : Type 0 where
   pub bills : (cs : List Call) (y : ℕ) → y < types → getD (run freshSession cs .bills) y (bills 0) .0 ≡ counted y (history cs)
   pub few : (cs : List Call) (y : ℕ) → y < types → counted y (history cs) ≤ commandLimit
   pub store : (cs : List Call)
       → run freshSession cs .store ≡ gathered (history cs) ++ replicate (storeSize - length (gathered (history cs))) 0
+  pub closings : (cs : List Call) → Truly (history cs)
 
 -- "Requests can meet 1 to 5", told from the history
 abbrev pub historyRefusals : Past → ℕ → List ℕ → List ℕ → List (Rule Declined)

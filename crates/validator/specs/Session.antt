@@ -12,7 +12,7 @@ use Rattle.ccnet_frame.specs.declared.class.Class.{Class}
 use Rattle.ccnet_frame.specs.declared.class.Class.the-variants.{Ack, Nak, Illegal as NotLegal, State, Busy, Rejecting, Failing, Escrow, Stacked, Returned, Unknown}
 use Rattle.validator.specs.Limits.{leastRoom, commandLimit, storeSize, types}
 use Rattle.validator.specs.Line.{freshLine, opened, remembers, isOpen, heard, passed}
-use Rattle.validator.specs.Bills.{noBills, bookedBy, credited, remembered}
+use Rattle.validator.specs.Bills.{poll, noBills, bookedBy, credited, remembered}
 use Rattle.validator.specs.declared.line.Line.{Line}
 use Rattle.validator.specs.declared.line.Todo.{Todo}
 use Rattle.validator.specs.declared.line.Todo.the-variants.{Nothing as Rest, Keep, Judge, Damage, Silence}
@@ -34,7 +34,7 @@ unfoldable pub isCommand : ℕ → ℕ → Condition
 isCommand code size =
     either (both (same code 0x34) (same size 6))
     (both
-    (either (same code 0x30) (either (same code 0x33) (either (same code 0x35) (either (same code 0x36) (same code 0x38)))))
+    (either (same code 0x30) (either (same code poll) (either (same code 0x35) (either (same code 0x36) (same code 0x38)))))
     (same size 0))
 
 -- ---- what a call leaves

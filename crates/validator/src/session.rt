@@ -67,13 +67,20 @@ enum Found {
     Good(Class),
 }
 
-// POLL's code.
-const POLL: u64 = 0x33;
+// The commands (003), and how many data bytes belong to ENABLE BILL TYPES.
+const RESET: u8 = 0x30;
 
-// ENABLE BILL TYPES, and how many data bytes belong to it.
+const POLL: u8 = 0x33;
+
 const ENABLE: u8 = 0x34;
 
 const ENABLE_DATA: usize = 6;
+
+const STACK: u8 = 0x35;
+
+const RETURN: u8 = 0x36;
+
+const HOLD: u8 = 0x38;
 
 // The validator's address.
 const VALIDATOR: u8 = 0x03;
@@ -85,19 +92,19 @@ fn is_command(code: u8, size: usize) -> bool
     if code == ENABLE {
         return size == ENABLE_DATA;
     }
-    if code == 0x30 {
+    if code == RESET {
         return size == 0;
     }
-    if code == 0x33 {
+    if code == POLL {
         return size == 0;
     }
-    if code == 0x35 {
+    if code == STACK {
         return size == 0;
     }
-    if code == 0x36 {
+    if code == RETURN {
         return size == 0;
     }
-    if code == 0x38 {
+    if code == HOLD {
         return size == 0;
     }
     false
@@ -235,7 +242,7 @@ fn is_poll_answer(class: Class) -> bool
 fn credit(code: u64, last: usize, class: Class) -> usize
     ensures { λ r. ⌜ r ≡ credited code last class ⌝ }
 {
-    if code != POLL {
+    if code != POLL as u64 {
         return Session::TYPES;
     }
     let y = stacked(class);
@@ -249,7 +256,7 @@ fn credit(code: u64, last: usize, class: Class) -> usize
 fn memory(code: u64, last: usize, class: Class) -> usize
     ensures { λ r. ⌜ r ≡ remembered code last class ⌝ }
 {
-    if code != POLL {
+    if code != POLL as u64 {
         return last;
     }
     if is_poll_answer(class) {
