@@ -184,7 +184,7 @@ module _ (l : Line) (a : Asked) (st : Stands (l .phase) l a) where
 -- ---- the session after a step
 
 -- the session after a step, with its store
-abbrev next : Session → StepAfter → List ℕ → Session
+abbrev pub next : Session → StepAfter → List ℕ → Session
 next s w store =
     record { line = w .line; asked = s .asked; account = bookedBy (s .account) (s .asked) (w .reply); store = store }
 
@@ -270,7 +270,7 @@ module _ (s : Session) (k : Sound s) (m : Line) (at b : ℕ) (r : List ℕ) wher
 -- ---- the calls
 
 -- what holds of a call refused and of a call done holds of what was judged
-either-way : {A : Type 0} (P : A → Type 0) (rules : List (Rule Declined)) (refuse : Declined → A) (done : A)
+pub either-way : {A : Type 0} (P : A → Type 0) (rules : List (Rule Declined)) (refuse : Declined → A) (done : A)
     → ((why : Declined) → P (refuse why)) → (NoneOf rules → P done) → P (judged rules refuse done)
 either-way P rules refuse done f g =
     ⊎-elim
@@ -340,7 +340,7 @@ module _ (s : Session) (k : Sound s) where
 
 -- ---- any calls at all
 
-called-sound : (s : Session) (c : Call) → Sound s → Sound (called s c .session)
+pub called-sound : (s : Session) (c : Call) → Sound s → Sound (called s c .session)
 called-sound s (request code upper lower r) k = request-sound s k code upper lower r
 called-sound s (byte b r) k = heard-sound s k b r
 called-sound s (tick ms r) k = passed-sound s k ms r
@@ -363,7 +363,7 @@ fresh-sums =
       rejected-most = lit≤ tt;
     }
 
-fresh-sound : Sound freshSession
+pub fresh-sound : Sound freshSession
 unfolding freshSession
 fresh-sound = record { stands = tt; commands = lit≤ tt; upper = fresh-sums; lower = fresh-sums; store = length-replicate {A = ℕ} 21 0 }
 
@@ -371,7 +371,7 @@ pub always-sound : AlwaysSound
 always-sound cs = run-sound freshSession cs fresh-sound
 
 -- no more commands have been closed than were accepted
-settled-most : (p : Phase) (n : ℕ) → settled p n ≤ n
+pub settled-most : (p : Phase) (n : ℕ) → settled p n ≤ n
 settled-most Idle n = le-refl n
 settled-most First n = omega arith
 settled-most Start n = omega arith

@@ -1,11 +1,10 @@
 -- The dispenser session, call by call (01, "The dispenser session" and "Numbers a call can answer").
 use Prim.Native.Nat.{ℕ, _+_}
-use mathlib.Core.Path.{_≡_, sym, _∙_}
-use mathlib.Core.Bool.{true, cond, true≢false}
+use mathlib.Core.Bool.{cond}
 use mathlib.Core.List.{List, [], _∷_}
 use lib.Dec.{eqb}
 use lib.ListN.{length, take, set, replicate}
-use Rattle.numbers.specs.Rules.{Condition, Rule, under, atMost, within, isnt, judged, _gives_}
+use Rattle.numbers.specs.Rules.{Condition, Rule, says, under, atMost, within, isnt, judged, _gives_}
 use Rattle.numbers.specs.declared.Put.{Put}
 use Rattle.numbers.specs.declared.Put.the-variants.{Bytes, Refused as NotPut}
 use Rattle.dispenser_frame.specs.Table.{answerLength}
@@ -171,7 +170,7 @@ tickStep l a ms r =
 
 -- "a command is open on this line"
 abbrev pub opens : Phase → Condition
-opens p = record { holds = isOpen p ≡ true; test = isOpen p; tells = record { shown = λ e. e; denied = λ e h. true≢false (sym h ∙ e) } }
+opens p = says (isOpen p)
 
 -- "Requests can meet 1 to 5": "the lowest that applies is given"
 unfoldable pub requestRefusals : Line → ℕ → ℕ → ℕ → List ℕ → List (Rule Declined)

@@ -114,3 +114,20 @@ lower-fits code e = rw e (go (line code .upper))
     go : (up : Bool) → cond up 6 4 + 4 ≤ 6 + sizes (askedFields up ++ askedFields true)
     go true = lit≤ tt
     go false = lit≤ tt
+
+-- two counts are the most that a command has, and no answer is longer than that of a payout from both
+pub command-most : (code : ℕ) → sizes (commandFields code) ≤ 4
+unfolding sizes
+command-most code = go (line code .upper) (line code .lower)
+  where
+    go : (up lo : Bool) → sizes (askedFields up ++ askedFields lo) ≤ 4
+    go true true = lit≤ tt
+    go true false = lit≤ tt
+    go false true = lit≤ tt
+    go false false = lit≤ tt
+
+pub answer-most : (code : ℕ) → answerLength code ≤ 21
+unfolding table codeIn lineIn lengthWith sizes
+answer-most =
+    by-code (λ code. answerLength code ≤ 21) (lit≤ tt) (lit≤ tt) (lit≤ tt) (lit≤ tt) (lit≤ tt) (lit≤ tt) (lit≤ tt)
+    (λ code a b c d e f g. let z : answerLength code ≡ 0 = simp (a, b, c, d, e, f, g) in omega arith)

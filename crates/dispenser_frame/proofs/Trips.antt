@@ -83,6 +83,15 @@ command-back code u l h =
     none-judged Refused (commandIn (codeOf s) s) (faults 0x04 commandFields s) (whole-passes 0x04 code commandFields ns (asked-sound up lo) k r)
     ∙ ap₂ (λ (a b : ℕ). Read code a b) (w .0) (w .1)
 
+-- a command's frame has the length of its code
+pub command-length : (code u l : ℕ) → sendable code u l .holds → length (commandFrame code u l) ≡ 6 + sizes (commandFields code)
+unfolding commandFrame sendable countsFit
+command-length code u l h =
+    let up = line code .upper in
+    let lo = line code .lower in
+    whole-length 0x04 code commandFields (askedValues up u ++ askedValues lo l) (asked-sound up lo) (holds-true (known code) (h .0))
+    (asked-ranges up lo u l (h .1 .0) (h .1 .1))
+
 -- a frame that reads well passed every test
 record Passed (s : List ℕ) (code u l : ℕ) : Type 1 where
   none : NoneOf (faults 0x04 commandFields s)

@@ -1,0 +1,686 @@
+-- After any calls at all the session agrees with the history: its bills, its store, and the numbers 3, 4 and 5. Assumes nothing.
+use Prim.Native.Nat.{ℕ, _+_, _-_, _≤_, _<_}
+use mathlib.Core.Path.{_≡_, refl, sym, ap, ap₂, _∙_, subst}
+use mathlib.Core.Bool.{Bool, true, false, cond}
+use mathlib.Core.List.{List, [], _∷_, _++_}
+use mathlib.Core.Logic.{_⊎_, inl, inr, ⊎-elim, _↔_}
+use native.Mathlib.Omega.{arith}
+use lib.Dec.{eqb, lit≤}
+use lib.ListN.{length, getD, set, take, replicate, length-append, length-replicate, getD-replicate}
+use lib.Seq.{take-at}
+use borrow.Author.Tests.{lt-ltb}
+use Rattle.numbers.specs.Rules.{Rule, under, same, judged, First, NoneOf}
+use Rattle.numbers.specs.Put.{over}
+use Rattle.numbers.proofs.Rules.{certain, holds-true, fails-false, cond-true, cond-false, first-judged, none-judged, first-or-none}
+use Rattle.numbers.proofs.Writing.{take-over}
+use Rattle.ccnet_frame.specs.Frame.{frame, judgeFrame, bodyOf}
+use Rattle.ccnet_frame.specs.Class.{classOf}
+use Rattle.ccnet_frame.specs.declared.frame.Judged.{Judged}
+use Rattle.ccnet_frame.specs.declared.frame.Judged.the-variants.{Good as Passed, Refused as Failed}
+use Rattle.ccnet_frame.specs.declared.class.Class.{Class}
+use Rattle.ccnet_frame.specs.declared.class.Class.the-variants.{Ack, Nak, Illegal, State, Busy, Rejecting, Failing, Escrow, Stacked, Returned, Unknown}
+use Rattle.ccnet_frame.proofs.Frames.{frame-length}
+use Rattle.ledger.specs.Events.{Deed, asks, hears, waits, Left, goes-on, closes, Event, declined, done, isFrame, since}
+use Rattle.ledger.specs.Line.{isOpen, quietTime, accepted}
+use Rattle.validator.specs.Limits.{quiet, frameWait, storeSize, commandLimit, types}
+use Rattle.validator.specs.Line.{isOpen as openIn, opened, closed, remembers, inside, waits as still, startByte, addressByte, lengthByte, furtherByte, gathered, heardIn, heard, expiredIn, expired, passed}
+use Rattle.validator.specs.Bills.{bills, bookedBy, poll, credited, remembered}
+use Rattle.validator.specs.Session.{LentAfter, StepAfter, stepAfter, refusedStep, lentAfter, afterStep, zeros, damagedStep, closedStep, answeredStep, classStep, foundIn, found, judgedStep, judgeStep, acted, byteActed, byteRefusals, tickRefusals, requestRefusals, byteStep, tickStep, requestStep, freshSession, sessionRequest, sessionByte, sessionTick}
+use Rattle.validator.specs.History.{Request, Ending, acknowledged, refused, illegal, answered, damaged, silent, Past, lastCode, fromStart, between, bodyBy, pollBody, reported, counted, gathered as so-far}
+use Rattle.validator.specs.Calls.{Call, request, byte, tick, called, deed, eventOf, event, reached, past, BillsTold, BillsFew, StoreTold, historyRefusals, NumbersTold}
+use Rattle.validator.specs.declared.bills.Bills.{Bills}
+use Rattle.validator.specs.declared.line.Phase.{Phase}
+use Rattle.validator.specs.declared.line.Phase.the-variants.{Idle, Start, Inside}
+use Rattle.validator.specs.declared.line.Line.{Line}
+use Rattle.validator.specs.declared.line.Todo.{Todo}
+use Rattle.validator.specs.declared.line.Todo.the-variants.{Nothing, Keep, Judge, Damage, Silence}
+use Rattle.validator.specs.declared.line.Turn.{Turn}
+use Rattle.validator.specs.declared.session.Declined.{Declined}
+use Rattle.validator.specs.declared.session.Session.{Session}
+use Rattle.validator.proofs.Past.{start-next, start-more, store-more, nothing-counted, counted-most}
+use Rattle.validator.proofs.Exact.{exactly-when}
+use Rattle.validator.proofs.Booking.{pick, Base, Fewer, answered-base, same-base}
+
+-- ---- where the line stands
+
+-- nothing open: the store is clean, and what is missing of the quiet time is left
+record Resting (l : Line) (store : List ℕ) (h : Past) : Type 0 where
+  shut : isOpen h ≡ false
+  clean : store ≡ zeros
+  missing : l .left ≡ quiet - quietTime h
+  bound : (y : ℕ) → y < types → counted y h ≤ accepted h
+
+-- a command open, and no 02h yet
+record Awaiting (l : Line) (store : List ℕ) (h : Past) : Type 0 where
+  live : isOpen h ≡ true
+  none : fromStart (since h) ≡ []
+  clean : store ≡ zeros
+  nothing : l .got ≡ 0
+  bound : Fewer h
+
+-- inside an answer: the store holds what has come since 02h, and then zeros
+record Gathering (l : Line) (store : List ℕ) (h : Past) : Type 0 where
+  live : isOpen h ≡ true
+  size : length (fromStart (since h)) ≡ l .got
+  filled : store ≡ fromStart (since h) ++ replicate (storeSize - l .got) 0
+  least : 1 ≤ l .got
+  less : l .got < l .want
+  most : l .want ≤ storeSize
+  untold : l .got ≤ 2 → l .want ≡ storeSize
+  bound : Fewer h
+
+abbrev Stands : Phase → Line → List ℕ → Past → Type 0
+Stands Idle l store h = Resting l store h
+Stands Start l store h = Awaiting l store h
+Stands Inside l store h = Gathering l store h
+
+record Agrees (s : Session) (h : Past) : Type 0 where
+  base : Base (s .line) (s .bills) h
+  stands : Stands (s .line .phase) (s .line) (s .store) h
+
+-- ---- a call that goes on, and one that closes
+
+-- a call that completed nothing leaves the bounds
+module _ (e : Event Request Ending) (h : Past) (none : pollBody e h ≡ []) (ea : accepted (e ∷ h) ≡ accepted h) where
+  fewer-still : Fewer h → Fewer (e ∷ h)
+  fewer-still f y small = omega (arith, nothing-counted y e h none, ea, f y small)
+
+  few-still : ((y : ℕ) → y < types → counted y h ≤ accepted h) → (y : ℕ) → y < types → counted y (e ∷ h) ≤ accepted (e ∷ h)
+  few-still f y small = omega (arith, nothing-counted y e h none, ea, f y small)
+
+-- a call that closed the command
+record Ends (e : Event Request Ending) (h : Past) : Type 0 where
+  shut : isOpen (e ∷ h) ≡ false
+  quieted : quietTime (e ∷ h) ≡ 0
+  as-many : accepted (e ∷ h) ≡ accepted h
+  as-coded : lastCode (e ∷ h) ≡ lastCode h
+
+heard-ends : (h : Past) (b : ℕ) (put : List ℕ) (k : Ending) → Ends (done (hears b) put (closes k)) h
+unfolding isOpen quietTime accepted lastCode
+heard-ends h b put k = record { shut = refl; quieted = refl; as-many = refl; as-coded = refl }
+
+waited-ends : (h : Past) (ms : ℕ) (put : List ℕ) (k : Ending) → Ends (done (waits ms) put (closes k)) h
+unfolding isOpen quietTime accepted lastCode
+waited-ends h ms put k = record { shut = refl; quieted = refl; as-many = refl; as-coded = refl }
+
+module _ (l : Line) (bs : List Bills) (h : Past) (base : Base l bs h) (fewer : Fewer h) (e : Event Request Ending) (ends : Ends e h) where
+  -- the line rests, whatever is remembered
+  rests : (m : Line) → m .left ≡ quiet → Resting m zeros (e ∷ h)
+  rests m ml =
+      record {
+        shut = ends .shut;
+        clean = refl;
+        missing = omega (arith, ml, ends .quieted);
+        bound = λ y small. omega (arith, counted-most y e h, fewer y small, ends .as-many);
+      }
+
+  closes-agrees : pollBody e h ≡ [] → Agrees (record { line = closed l; bills = bs; store = zeros }) (e ∷ h)
+  closes-agrees none =
+      record {
+        base = same-base l (closed l) bs h base refl refl refl e none (ends .as-many) (ends .as-coded);
+        stands = rests (closed l) refl;
+      }
+
+-- ---- what is left by a step
+
+-- the session agrees after a step that answers a byte or a tick
+abbrev Next : Session → Past → Deed Request → LentAfter → Type 0
+Next s h d w = Agrees (afterStep s w .session) (eventOf d (w .step .reply) (w .room) ∷ h)
+
+module _ (s : Session) (h : Past) (k : Agrees s h) where
+  abbrev l : Line
+  l = s .line
+
+  -- an open command, whichever way it stands
+  open-fewer : (p : Phase) → openIn p ≡ true → Stands p l (s .store) h → Fewer h
+  open-fewer Idle o st = let z : _≡_ {A = ℕ} 0 1 = cc in absurd (omega arith)
+  open-fewer Start o st = st .bound
+  open-fewer Inside o st = st .bound
+
+  -- ---- closings
+
+  module _ (fewer : Fewer h) (r : List ℕ) where
+    heard-damaged : (b : ℕ) → Next s h (hears b) (damagedStep (closed l) r)
+    unfolding damagedStep bookedBy
+    heard-damaged b = closes-agrees l (s .bills) h (k .base) fewer _ (heard-ends h b _ damaged) refl
+
+    waited-damaged : (ms : ℕ) → Next s h (waits ms) (damagedStep (closed l) r)
+    unfolding damagedStep bookedBy
+    waited-damaged ms = closes-agrees l (s .bills) h (k .base) fewer _ (waited-ends h ms _ damaged) refl
+
+    waited-silent : (ms : ℕ) → Next s h (waits ms) (acted Silence (closed l) (s .store) r)
+    unfolding bookedBy
+    waited-silent ms = closes-agrees l (s .bills) h (k .base) fewer _ (waited-ends h ms _ silent) refl
+
+    -- an answer that ends with b; its body is what stands between
+    module _ (b : ℕ) (body : List ℕ) (is : body ≡ between (fromStart (since h ++ (b ∷ [])))) where
+      heard-answered : Next s h (hears b) (answeredStep (closed l) (classOf body) r)
+      unfolding answeredStep
+      heard-answered =
+          let e = eventOf (hears b) (answeredStep (closed l) (classOf body) r .step .reply) (answeredStep (closed l) (classOf body) r .room) in
+          let ends = heard-ends h b _ answered in
+          let m = remembers (closed l) (remembered (l .code) (l .last) (classOf body)) in
+          record {
+            base =
+                answered-base l (s .bills) h (k .base) fewer e body
+                (ap₂ (λ (c : ℕ) (x : List ℕ). cond (eqb c poll) x []) (sym (k .base .code-is)) (sym is))
+                m refl refl refl (ends .as-many) (ends .as-coded);
+            stands = rests l (s .bills) h (k .base) fewer e ends m refl;
+          }
+
+      heard-class : (c : Class) → c ≡ classOf body → Next s h (hears b) (classStep c (closed l) r)
+      unfolding bookedBy
+      heard-class Ack e = closes-agrees l (s .bills) h (k .base) fewer _ (heard-ends h b _ acknowledged) refl
+      heard-class Nak e = closes-agrees l (s .bills) h (k .base) fewer _ (heard-ends h b _ refused) refl
+      heard-class Illegal e = closes-agrees l (s .bills) h (k .base) fewer _ (heard-ends h b _ illegal) refl
+      heard-class (State x) e = subst (λ (c : Class). Next s h (hears b) (answeredStep (closed l) c r)) (sym e) heard-answered
+      heard-class (Busy x) e = subst (λ (c : Class). Next s h (hears b) (answeredStep (closed l) c r)) (sym e) heard-answered
+      heard-class (Rejecting x) e = subst (λ (c : Class). Next s h (hears b) (answeredStep (closed l) c r)) (sym e) heard-answered
+      heard-class (Failing x) e = subst (λ (c : Class). Next s h (hears b) (answeredStep (closed l) c r)) (sym e) heard-answered
+      heard-class (Escrow x) e = subst (λ (c : Class). Next s h (hears b) (answeredStep (closed l) c r)) (sym e) heard-answered
+      heard-class (Stacked x) e = subst (λ (c : Class). Next s h (hears b) (answeredStep (closed l) c r)) (sym e) heard-answered
+      heard-class (Returned x) e = subst (λ (c : Class). Next s h (hears b) (answeredStep (closed l) c r)) (sym e) heard-answered
+      heard-class Unknown e = subst (λ (c : Class). Next s h (hears b) (answeredStep (closed l) c r)) (sym e) heard-answered
+
+    -- a full frame, good or bad
+    heard-full : (b : ℕ) (f : List ℕ) → f ≡ fromStart (since h ++ (b ∷ [])) → Next s h (hears b) (judgedStep (found f) (closed l) r)
+    unfolding found between
+    heard-full b f is = by (judgeFrame f) refl
+      where
+        by : (j : Judged) → judgeFrame f ≡ j → Next s h (hears b) (judgedStep (foundIn j f) (closed l) r)
+        by (Passed a) e = heard-class b (bodyOf f) (rw e (ap between is)) (classOf (bodyOf f)) refl
+        by (Failed fault) e = heard-damaged b
+
+  -- ---- a byte that closes nothing
+
+  module _ (b : ℕ) where
+    -- the call, as a caller knows it
+    abbrev came : Event Request Ending
+    came = done (hears b) [] goes-on
+
+    came-base : (m : Line) → m .accepted ≡ l .accepted → m .code ≡ l .code → m .last ≡ l .last → Base m (s .bills) (came ∷ h)
+    unfolding accepted lastCode
+    came-base m ma mc ml = same-base l m (s .bills) h (k .base) ma mc ml came refl refl refl
+
+    came-open : isOpen (came ∷ h) ≡ isOpen h
+    unfolding isOpen
+    came-open = refl
+
+    came-fewer : Fewer h → Fewer (came ∷ h)
+    unfolding accepted
+    came-fewer f = fewer-still came h refl refl f
+
+    came-since : since (came ∷ h) ≡ since h ++ (b ∷ [])
+    unfolding since isFrame
+    came-since = refl
+
+    -- with nothing open
+    came-resting : Resting l (s .store) h → Resting (still l quiet) (s .store) (came ∷ h)
+    unfolding isOpen quietTime accepted
+    came-resting st =
+        record { shut = st .shut; clean = st .clean; missing = refl; bound = few-still came h refl refl (st .bound) }
+
+    -- no 02h yet, and this is none
+    came-skipped : Awaiting l (s .store) h → (b ≡ 0x02 → ⊥) → Awaiting (still l (l .left)) (s .store) (came ∷ h)
+    came-skipped st n =
+        record {
+          live = came-open ∙ st .live;
+          none = ap fromStart came-since ∙ start-next (since h) b (st .none) ∙ cond-false (b ∷ []) [] (fails-false (same b 0x02) n);
+          clean = st .clean;
+          nothing = st .nothing;
+          bound = came-fewer (st .bound);
+        }
+
+    -- 02h
+    came-started : Awaiting l (s .store) h → b ≡ 0x02
+        → Gathering (inside l frameWait 1 storeSize) (set (s .store) (l .got) b) (came ∷ h)
+    came-started st e =
+        let f : fromStart (since (came ∷ h)) ≡ b ∷ [] =
+        ap fromStart came-since ∙ start-next (since h) b (st .none) ∙ cond-true (b ∷ []) [] (holds-true (same b 0x02) e) in
+        record {
+          live = came-open ∙ st .live;
+          size = ap length f;
+          filled =
+              ap₂ (λ (x : List ℕ) (n : ℕ). set x n b) (st .clean) (st .nothing)
+              ∙ store-more [] b storeSize (lit≤ tt)
+              ∙ ap (λ (g : List ℕ). g ++ replicate (storeSize - 1) 0) (sym f);
+          least = lit≤ tt;
+          less = lit≤ tt;
+          most = lit≤ tt;
+          untold = λ u. refl;
+          bound = came-fewer (st .bound);
+        }
+
+    module _ (st : Gathering l (s .store) h) where
+      abbrev before : List ℕ
+      before = fromStart (since h)
+
+      came-from : fromStart (since h ++ (b ∷ [])) ≡ before ++ (b ∷ [])
+      came-from = start-more (since h) (b ∷ []) (omega (arith, st .size, st .least))
+
+      came-size : length (before ++ (b ∷ [])) ≡ l .got + 1
+      came-size = length-append before (b ∷ []) ∙ ap (λ (n : ℕ). n + 1) (st .size)
+
+      came-filled : set (s .store) (l .got) b ≡ (before ++ (b ∷ [])) ++ replicate (storeSize - l .got - 1) 0
+      came-filled =
+          ap₂ (λ (x : List ℕ) (n : ℕ). set x n b) (st .filled) (sym (st .size))
+          ∙ store-more before b (storeSize - l .got) (omega (arith, st .less, st .most))
+
+      -- one byte more of an answer
+      came-kept : (n want : ℕ) → n ≡ l .got + 1 → n < want → want ≤ storeSize → (n ≤ 2 → want ≡ storeSize)
+          → Gathering (inside l (l .left) n want) (set (s .store) (l .got) b) (came ∷ h)
+      came-kept n want e less most untold =
+          let f : fromStart (since (came ∷ h)) ≡ before ++ (b ∷ []) = ap fromStart came-since ∙ came-from in
+          let m : storeSize - l .got - 1 ≡ storeSize - n = omega arith in
+          record {
+            live = came-open ∙ st .live;
+            size = ap length f ∙ came-size ∙ sym e;
+            filled = came-filled ∙ ap₂ (λ (g : List ℕ) (j : ℕ). g ++ replicate j 0) (sym f) m;
+            least = omega arith;
+            less = less;
+            most = most;
+            untold = untold;
+            bound = came-fewer (st .bound);
+          }
+
+      -- the last one: what is judged is what came since 02h
+      came-full : l .want ≡ l .got + 1 → take (l .want) (set (s .store) (l .got) b) ≡ fromStart (since h ++ (b ∷ []))
+      came-full e =
+          ap (take (l .want)) came-filled
+          ∙ take-at (before ++ (b ∷ [])) (replicate (storeSize - l .got - 1) 0) (l .want) (came-size ∙ sym e)
+          ∙ sym came-from
+
+    -- ---- a byte, by where the line stands
+
+    module _ (small : b < 256) (r : List ℕ) where
+      -- what a turn of the line leads to
+      abbrev After : Turn → Type 0
+      After t = Next s h (hears b) (byteActed (t .todo) (t .line) (l .want) (s .store) (l .got) b r)
+
+      after-idle : l .phase ≡ Idle → Resting l (s .store) h → Next s h (hears b) (acted Nothing (still l quiet) (s .store) r)
+      unfolding bookedBy
+      after-idle p st =
+          record {
+            base = came-base (still l quiet) refl refl refl;
+            stands = subst (λ (q : Phase). Stands q (still l quiet) (s .store) (came ∷ h)) (sym p) (came-resting st);
+          }
+
+      after-start : l .phase ≡ Start → Awaiting l (s .store) h → After (startByte l b)
+      unfolding startByte bookedBy
+      after-start p st =
+          pick After (same b 0x02) _ _
+          (λ e. record { base = came-base (inside l frameWait 1 storeSize) refl refl refl; stands = came-started st e })
+          (λ n.
+          record {
+            base = came-base (still l (l .left)) refl refl refl;
+            stands = subst (λ (q : Phase). Stands q (still l (l .left)) (s .store) (came ∷ h)) (sym p) (came-skipped st n);
+          })
+
+      module _ (st : Gathering l (s .store) h) where
+        kept : (n want : ℕ) → n ≡ l .got + 1 → n < want → want ≤ storeSize → (n ≤ 2 → want ≡ storeSize)
+            → Next s h (hears b) (byteActed Keep (inside l (l .left) n want) (l .want) (s .store) (l .got) b r)
+        unfolding bookedBy
+        kept n want e less most untold =
+            record { base = came-base (inside l (l .left) n want) refl refl refl; stands = came-kept st n want e less most untold }
+
+        after-address : l .got ≡ 1 → After (addressByte l b)
+        unfolding addressByte
+        after-address g =
+            pick After (same b 0x03) _ _
+            (λ e. kept 2 (l .want) (omega arith) (omega (arith, st .untold (omega arith))) (st .most) (λ u. st .untold (omega arith)))
+            (λ n. heard-damaged (st .bound) r b)
+
+        after-length : l .got ≡ 2 → After (lengthByte l b)
+        unfolding lengthByte
+        after-length g =
+            pick After (under b 6) _ _
+            (λ e. heard-damaged (st .bound) r b)
+            (λ n. kept 3 b (omega arith) (omega (arith, least n)) (omega arith) (λ u. absurd (omega arith)))
+          where
+            least : (b < 6 → ⊥) → 6 ≤ b
+            least n = omega arith
+
+        after-further : (l .got ≡ 1 → ⊥) → (l .got ≡ 2 → ⊥) → After (furtherByte l)
+        unfolding furtherByte judgeStep
+        after-further g f =
+            pick After (under (l .got + 1) (l .want)) _ _
+            (λ e. kept (l .got + 1) (l .want) refl e (st .most) (λ u. absurd (omega (arith, st .least, g, f))))
+            (λ n. heard-full (st .bound) r b (take (l .want) (set (s .store) (l .got) b)) (came-full st (omega (arith, st .less, n))))
+
+        after-inside : After (gathered l b)
+        unfolding gathered
+        after-inside =
+            pick After (same (l .got) 1) _ _ after-address
+            (λ n. pick After (same (l .got) 2) _ _ after-length (λ m. after-further n m))
+
+      after-heard : After (heard l b)
+      unfolding heard
+      after-heard = by (l .phase) refl (k .stands)
+        where
+          by : (p : Phase) → l .phase ≡ p → Stands p l (s .store) h → After (heardIn p l b)
+          by Idle e st = after-idle e st
+          by Start e st = after-start e st
+          by Inside e st = after-inside st
+
+  -- ---- a tick
+
+  module _ (ms : ℕ) where
+    abbrev went : Event Request Ending
+    went = done (waits ms) [] goes-on
+
+    went-base : (m : Line) → m .accepted ≡ l .accepted → m .code ≡ l .code → m .last ≡ l .last → Base m (s .bills) (went ∷ h)
+    unfolding accepted lastCode
+    went-base m ma mc ml = same-base l m (s .bills) h (k .base) ma mc ml went refl refl refl
+
+    went-since : since (went ∷ h) ≡ since h
+    unfolding since isFrame
+    went-since = append-nil (since h)
+      where
+        append-nil : (x : List ℕ) → x ++ [] ≡ x
+        append-nil [] = refl
+        append-nil (a ∷ x) = ap (λ (y : List ℕ). a ∷ y) (append-nil x)
+
+    went-open : isOpen (went ∷ h) ≡ isOpen h
+    unfolding isOpen
+    went-open = refl
+
+    went-fewer : Fewer h → Fewer (went ∷ h)
+    unfolding accepted
+    went-fewer f = fewer-still went h refl refl f
+
+    -- the wait goes on, or the quiet time is complete
+    went-stands : (left : ℕ) → (left ≡ l .left - ms) → (p : Phase) → Stands p l (s .store) h → Stands p (still l left) (s .store) (went ∷ h)
+    unfolding isOpen quietTime accepted
+    went-stands left e Idle st =
+        record { shut = st .shut; clean = st .clean; missing = omega (arith, st .missing); bound = few-still went h refl refl (st .bound) }
+    went-stands left e Start st =
+        record {
+          live = went-open ∙ st .live;
+          none = ap fromStart went-since ∙ st .none;
+          clean = st .clean;
+          nothing = st .nothing;
+          bound = went-fewer (st .bound);
+        }
+    went-stands left e Inside st =
+        record {
+          live = went-open ∙ st .live;
+          size = ap (λ (x : List ℕ). length (fromStart x)) went-since ∙ st .size;
+          filled = st .filled ∙ ap (λ (x : List ℕ). fromStart x ++ replicate (storeSize - l .got) 0) (sym went-since);
+          least = st .least;
+          less = st .less;
+          most = st .most;
+          untold = st .untold;
+          bound = went-fewer (st .bound);
+        }
+
+    module _ (r : List ℕ) where
+      abbrev Passed-by : Turn → Type 0
+      Passed-by t = Next s h (waits ms) (acted (t .todo) (t .line) (s .store) r)
+
+      goes : (left : ℕ) → left ≡ l .left - ms → Next s h (waits ms) (acted Nothing (still l left) (s .store) r)
+      unfolding bookedBy
+      goes left e = record { base = went-base (still l left) refl refl refl; stands = went-stands left e (l .phase) (k .stands) }
+
+      after-expired : l .left ≤ ms → Passed-by (expired l)
+      unfolding expired
+      after-expired e = by (l .phase) refl (k .stands)
+        where
+          by : (p : Phase) → l .phase ≡ p → Stands p l (s .store) h → Passed-by (expiredIn p l)
+          by Idle q st = goes 0 (omega arith)
+          by Start q st = waited-silent (st .bound) r ms
+          by Inside q st = waited-damaged (st .bound) r ms
+
+      after-passed : Passed-by (passed l ms)
+      unfolding passed
+      after-passed = pick Passed-by (under ms (l .left)) _ _ (λ e. goes (l .left - ms) refl) (λ n. after-expired (omega (arith, n)))
+
+  -- ---- a request
+
+  module _ (code : ℕ) (given r : List ℕ) where
+    abbrev sent-frame : List ℕ
+    sent-frame = frame 0x03 (code ∷ given)
+
+    abbrev wrote : Event Request Ending
+    wrote = done (asks (record { code = code; given = given })) (take (length sent-frame) (over sent-frame r)) goes-on
+
+    wrote-since : since (wrote ∷ h) ≡ []
+    unfolding since isFrame
+    wrote-since =
+        rw (take-over sent-frame r) (rw (lt-ltb 1 (length sent-frame) (omega (arith, frame-length 0x03 (code ∷ given)))))
+
+    -- nothing was open
+    resting : (p : Phase) → (openIn p ≡ true → ⊥) → Stands p l (s .store) h → Resting l (s .store) h
+    resting Idle n st = st
+    resting Start n st = absurd (n refl)
+    resting Inside n st = absurd (n refl)
+
+    wrote-agrees : Resting l (s .store) h → l .accepted < commandLimit
+        → Agrees (record { line = opened l code (l .accepted + 1); bills = s .bills; store = s .store }) (wrote ∷ h)
+    unfolding isOpen accepted lastCode reported counted classOf fromStart
+    wrote-agrees st f =
+        record {
+          base =
+              record {
+                accepted-is = ap (λ (n : ℕ). n + 1) (k .base .accepted-is);
+                few = omega arith;
+                code-is = refl;
+                last-is = k .base .last-is;
+                many = k .base .many;
+                counts = k .base .counts;
+              };
+          stands =
+              record {
+                live = refl;
+                none = ap fromStart wrote-since;
+                clean = st .clean;
+                nothing = refl;
+                bound = λ y small. omega (arith, st .bound y small);
+              };
+        }
+
+-- ---- the calls
+
+-- what holds of a call refused and of a call done holds of what was judged
+either-way : {A : Type 0} (P : A → Type 0) (rules : List (Rule Declined)) (refuse : Declined → A) (made : A)
+    → ((why : Declined) → P (refuse why)) → (NoneOf rules → P made) → P (judged rules refuse made)
+either-way P rules refuse made f g =
+    ⊎-elim
+    (λ h. subst P (sym (first-judged refuse made rules (h .0) (h .1))) (f (h .0)))
+    (λ n. subst P (sym (none-judged refuse made rules n)) (g n))
+    (first-or-none rules)
+
+module _ (s : Session) (h : Past) (k : Agrees s h) where
+  -- a call that was declined
+  declined-stands : (p : Phase) → Stands p (s .line) (s .store) h → Stands p (s .line) (s .store) (declined ∷ h)
+  unfolding isOpen quietTime accepted since counted classOf
+  declined-stands Idle st = record { shut = st .shut; clean = st .clean; missing = st .missing; bound = st .bound }
+  declined-stands Start st =
+      record { live = st .live; none = st .none; clean = st .clean; nothing = st .nothing; bound = st .bound }
+  declined-stands Inside st =
+      record {
+        live = st .live;
+        size = st .size;
+        filled = st .filled;
+        least = st .least;
+        less = st .less;
+        most = st .most;
+        untold = st .untold;
+        bound = st .bound;
+      }
+
+  declined-agrees : Agrees s (declined ∷ h)
+  unfolding accepted lastCode reported counted classOf
+  declined-agrees =
+      record {
+        base =
+            record {
+              accepted-is = k .base .accepted-is;
+              few = k .base .few;
+              code-is = k .base .code-is;
+              last-is = k .base .last-is;
+              many = k .base .many;
+              counts = k .base .counts;
+            };
+        stands = declined-stands (s .line .phase) (k .stands);
+      }
+
+  request-agrees : (code : ℕ) (given r : List ℕ)
+      → Agrees (sessionRequest s code given r .session) (event (request code given r) (sessionRequest s code given r) ∷ h)
+  unfolding sessionRequest requestStep requestRefusals
+  request-agrees code given r =
+      either-way
+      (λ (w : StepAfter).
+      Agrees (record { line = w .step .line; bills = s .bills; store = s .store })
+      (eventOf (asks (record { code = code; given = given })) (w .step .reply) (w .room) ∷ h))
+      (requestRefusals (s .line) code given r) (λ why. stepAfter (refusedStep (s .line) why) r) _
+      (λ why. declined-agrees)
+      (λ n.
+      wrote-agrees s h k code given r (resting s h k code given r (s .line .phase) (n .1 .1 .0) (k .stands)) (omega (arith, n .1 .1 .1 .1 .0)))
+
+  byte-agrees : (b : ℕ) → b < 256 → (r : List ℕ) → Agrees (sessionByte s b r .session) (eventOf (hears b) (sessionByte s b r .reply) (sessionByte s b r .room) ∷ h)
+  unfolding sessionByte byteStep bookedBy
+  byte-agrees b small r =
+      either-way (Next s h (hears b)) (byteRefusals r) (λ why. lentAfter (refusedStep (s .line) why) (s .store) r) _
+      (λ why. declined-agrees)
+      (λ n. after-heard s h k b small r)
+
+  tick-agrees : (ms : ℕ) (r : List ℕ) → Agrees (sessionTick s ms r .session) (event (tick ms r) (sessionTick s ms r) ∷ h)
+  unfolding sessionTick tickStep bookedBy
+  tick-agrees ms r =
+      either-way (Next s h (waits ms)) (tickRefusals ms r) (λ why. lentAfter (refusedStep (s .line) why) (s .store) r) _
+      (λ why. declined-agrees)
+      (λ n. after-passed s h k ms r)
+
+called-agrees : (s : Session) (h : Past) (c : Call) → Agrees s h → Agrees (called s c .session) (event c (called s c) ∷ h)
+called-agrees s h (request code given r) k = request-agrees s h k code given r
+called-agrees s h (byte b small r) k = byte-agrees s h k b small r
+called-agrees s h (tick ms r) k = tick-agrees s h k ms r
+
+fresh-agrees : Agrees freshSession []
+unfolding freshSession isOpen quietTime accepted lastCode reported counted classOf
+fresh-agrees =
+    record {
+      base =
+          record {
+            accepted-is = refl;
+            few = lit≤ tt;
+            code-is = refl;
+            last-is = refl;
+            many = length-replicate {A = Bills} types (bills 0);
+            counts = λ y small. ap (λ (x : Bills). x .0) (getD-replicate types y (bills 0) (bills 0) small);
+          };
+      stands = record { shut = refl; clean = refl; missing = refl; bound = λ y small. lit≤ tt };
+    }
+
+-- after any calls at all
+always-agrees : (cs : List Call) → Agrees (reached cs) (past cs)
+unfolding reached past
+always-agrees [] = fresh-agrees
+always-agrees (c ∷ cs) = called-agrees (reached cs) (past cs) c (always-agrees cs)
+
+-- ---- what is promised
+
+pub bills-told : BillsTold
+bills-told cs = always-agrees cs .base .counts
+
+pub bills-few : BillsFew
+bills-few cs y small = by (reached cs .line .phase) (always-agrees cs .stands)
+  where
+    agrees : Base (reached cs .line) (reached cs .bills) (past cs)
+    agrees = always-agrees cs .base
+
+    by : (p : Phase) → Stands p (reached cs .line) (reached cs .store) (past cs) → counted y (past cs) ≤ commandLimit
+    by Idle st = omega (arith, st .bound y small, agrees .accepted-is, agrees .few)
+    by Start st = omega (arith, st .bound y small, agrees .accepted-is, agrees .few)
+    by Inside st = omega (arith, st .bound y small, agrees .accepted-is, agrees .few)
+
+-- the store, by where the line stands
+store-is : (l : Line) (store : List ℕ) (h : Past) (p : Phase) → Stands p l store h
+    → store ≡ so-far h ++ replicate (storeSize - length (so-far h)) 0
+store-is l store h Idle st = rw (st .shut) (st .clean)
+store-is l store h Start st = rw (st .live) (rw (st .none) (st .clean))
+store-is l store h Inside st = rw (st .live) (rw (st .size) (st .filled))
+
+pub store-told : StoreTold
+store-told cs = store-is (reached cs .line) (reached cs .store) (past cs) (reached cs .line .phase) (always-agrees cs .stands)
+
+-- ---- the numbers of a request
+
+-- rules that give the same, each condition holding exactly where its like does, once those before it do not
+abbrev Alike : List (Rule Declined) → List (Rule Declined) → Type 0
+Alike [] [] = Unit {0}
+Alike [] (q ∷ qs) = ⊥
+Alike (r ∷ rs) [] = ⊥
+Alike (r ∷ rs) (q ∷ qs) = (r .gives ≡ q .gives) × (r .when .holds ↔ q .when .holds) × ((q .when .holds → ⊥) → Alike rs qs)
+
+first-alike : (rs qs : List (Rule Declined)) → Alike rs qs → (why : Declined) → First rs why ↔ First qs why
+first-alike [] [] a why = (λ f. f, λ f. f)
+first-alike [] (q ∷ qs) a why = absurd a
+first-alike (r ∷ rs) [] a why = absurd a
+first-alike (r ∷ rs) (q ∷ qs) a why = (
+  ⊎-elim
+      (λ f. inl (a .1 .0 (f .0), sym (a .0) ∙ f .1))
+      (λ f. let n : q .when .holds → ⊥ = λ h. f .0 (a .1 .1 h) in inr (n, first-alike rs qs (a .2 n) why .0 (f .1))),
+  ⊎-elim
+      (λ f. inl (a .1 .1 (f .0), a .0 ∙ f .1))
+      (λ f. inr ((λ h. f .0 (a .1 .0 h)), first-alike rs qs (a .2 (f .0)) why .1 (f .1))),
+)
+
+none-alike : (rs qs : List (Rule Declined)) → Alike rs qs → NoneOf rs ↔ NoneOf qs
+none-alike [] [] a = (λ n. n, λ n. n)
+none-alike [] (q ∷ qs) a = absurd a
+none-alike (r ∷ rs) [] a = absurd a
+none-alike (r ∷ rs) (q ∷ qs) a = (
+  λ n. let m : q .when .holds → ⊥ = λ h. n .0 (a .1 .1 h) in (m, none-alike rs qs (a .2 m) .0 (n .1)),
+  λ n. ((λ h. n .0 (a .1 .0 h)), none-alike rs qs (a .2 (n .0)) .1 (n .1)),
+)
+
+-- whether a command is open
+phase-told : (l : Line) (store : List ℕ) (h : Past) (p : Phase) → Stands p l store h → openIn p ≡ isOpen h
+phase-told l store h Idle st = sym (st .shut)
+phase-told l store h Start st = sym (st .live)
+phase-told l store h Inside st = sym (st .live)
+
+-- with nothing open, how much quiet is missing
+missing-told : (l : Line) (store : List ℕ) (h : Past) (p : Phase) → Stands p l store h → (isOpen h ≡ true → ⊥) → l .left ≡ quiet - quietTime h
+missing-told l store h Idle st n = st .missing
+missing-told l store h Start st n = absurd (n (st .live))
+missing-told l store h Inside st n = absurd (n (st .live))
+
+module _ (s : Session) (h : Past) (k : Agrees s h) (code : ℕ) (given r : List ℕ) where
+  refusals-alike : Alike (requestRefusals (s .line) code given r) (historyRefusals h code given r)
+  unfolding requestRefusals historyRefusals
+  refusals-alike =
+      let o = phase-told (s .line) (s .store) h (s .line .phase) (k .stands) in
+      let m = missing-told (s .line) (s .store) h (s .line .phase) (k .stands) in (
+        refl,
+        (λ f. f, λ f. f),
+        λ n0. (
+          refl,
+          (λ f. f, λ f. f),
+          λ n1. (
+            refl,
+            (λ f. sym o ∙ f, λ f. o ∙ f),
+            λ shut. (
+              refl,
+              (λ f. omega (arith, m shut), λ f. omega (arith, m shut)),
+              λ n3.
+                  (refl, (λ f. omega (arith, k .base .accepted-is), λ f. omega (arith, k .base .accepted-is)), λ n4. tt),
+            ),
+          ),
+        ),
+      )
+
+pub numbers-told : NumbersTold
+numbers-told cs code given r =
+    let s = reached cs in
+    let h = past cs in
+    let a = refusals-alike s h (always-agrees cs) code given r in
+    let d = exactly-when .request s code given r in
+    let f = first-alike (requestRefusals (s .line) code given r) (historyRefusals h code given r) a in
+    let n = none-alike (requestRefusals (s .line) code given r) (historyRefusals h code given r) a in
+    record {
+      declined = λ why. (λ e. f why .0 (d .declined why .0 e), λ g. d .declined why .1 (f why .1 g));
+      kept = d .kept;
+      done = (λ t. n .0 (d .done .0 t), λ g. d .done .1 (n .1 g));
+    }

@@ -1,0 +1,8 @@
+pub mod Deeds
+pub mod Sending
+pub mod Reading
+pub mod Exact
+pub mod Tied
+pub mod Past
+pub mod Booking
+pub mod Agreeing

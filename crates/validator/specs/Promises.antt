@@ -1,0 +1,55 @@
+-- What is promised of each call of the validator session, whatever the session: the statements, proved in proofs/Exact.antt.
+use Prim.Native.Nat.{ℕ}
+use mathlib.Core.Path.{_≡_}
+use mathlib.Core.List.{List, _∷_}
+use mathlib.Core.Logic.{_↔_}
+use Rattle.numbers.specs.Rules.{First, NoneOf}
+use Rattle.ccnet_frame.specs.Frame.{frame}
+use Rattle.ccnet_frame.specs.declared.class.Class.{Class}
+use Rattle.validator.specs.Session.{After, Sent, sent, sending, ack, nak, byteRefusals, tickRefusals, requestRefusals, sessionRequest, sessionByte, sessionTick}
+use Rattle.validator.specs.declared.session.Declined.{Declined}
+use Rattle.validator.specs.declared.session.Reply.{Reply}
+use Rattle.validator.specs.declared.session.Reply.the-variants.{Refused, Done}
+use Rattle.validator.specs.declared.session.Closing.{Closing}
+use Rattle.validator.specs.declared.session.Closing.the-variants.{Nothing, Acknowledged, Refused as GaveUp, Illegal, Answered, Damaged, Silent}
+use Rattle.validator.specs.declared.session.Session.{Session}
+
+-- the call was declined, and the session and every byte of the room are what they were
+abbrev pub declinedAfter : Session → Declined → List ℕ → After
+declinedAfter s why r = record { session = s; reply = Refused why; room = r }
+
+-- "Given exactly when": a call answers a number if and only if it is that of the first condition that holds, and then leaves everything
+-- as it was; it does its step if and only if none holds
+pub record Declines (rules : (Declined → Type 0)) (none : Type 0) (s : Session) (r : List ℕ) (w : After) : Type 0 where
+  pub declined : (why : Declined) → (w .reply ≡ Refused why) ↔ rules why
+  pub kept : (why : Declined) → w .reply ≡ Refused why → w ≡ declinedAfter s why r
+  pub done : ((n : ℕ) × ((c : Closing) × (w .reply ≡ Done n c))) ↔ none
+
+pub record ExactlyWhen : Type 0 where
+  pub request : (s : Session) (code : ℕ) (given r : List ℕ)
+      → Declines (First (requestRefusals (s .line) code given r)) (NoneOf (requestRefusals (s .line) code given r)) s r
+      (sessionRequest s code given r)
+  pub byte : (s : Session) (b : ℕ) (r : List ℕ)
+      → Declines (First (byteRefusals r)) (NoneOf (byteRefusals r)) s r (sessionByte s b r)
+  pub tick : (s : Session) (ms : ℕ) (r : List ℕ)
+      → Declines (First (tickRefusals ms r)) (NoneOf (tickRefusals ms r)) s r (sessionTick s ms r)
+
+-- what a byte or a tick sends, by the closing that it makes: an ACK frame to an answer, a NAK frame to a damaged one, and nothing else
+abbrev pub sends : Closing → List ℕ → Sent
+sends Nothing r = sent 0 r
+sends Acknowledged r = sent 0 r
+sends GaveUp r = sent 0 r
+sends Illegal r = sent 0 r
+sends (Answered c) r = sending ack r
+sends Damaged r = sending nak r
+sends Silent r = sent 0 r
+
+-- a reply is always the ACK frame or the NAK frame, and what a request sends is the frame that the layout gives; "Nothing is resent by
+-- itself"
+pub record Sends : Type 0 where
+  pub request : (s : Session) (code : ℕ) (given r : List ℕ) (n : ℕ) (c : Closing) → sessionRequest s code given r .reply ≡ Done n c
+      → sent n (sessionRequest s code given r .room) ≡ sending (frame 0x03 (code ∷ given)) r
+  pub byte : (s : Session) (b : ℕ) (r : List ℕ) (n : ℕ) (c : Closing) → sessionByte s b r .reply ≡ Done n c
+      → sent n (sessionByte s b r .room) ≡ sends c r
+  pub tick : (s : Session) (ms : ℕ) (r : List ℕ) (n : ℕ) (c : Closing) → sessionTick s ms r .reply ≡ Done n c
+      → sent n (sessionTick s ms r .room) ≡ sends c r

@@ -1,0 +1,530 @@
+// The validator session: the line and the bills joined with the frames.
+ghost use mathlib.Core.Path.{_≡_};
+ghost use mathlib.Core.List.{_∷_};
+ghost use Prim.Native.Nat.{_≤_};
+ghost use lib.ListN.{length, set, take};
+ghost use Rattle.ccnet_frame.specs.Frame.{frame};
+ghost use Rattle.validator.specs.Bills.{stackedType, isPollAnswer, credited, remembered};
+ghost use Rattle.validator.specs.Session.{declinedNumber, isCommand, ack, nak, sent, sending, zeros, found, stepped, refusedStep, stepAfter, lentAfter, after, damagedStep, answeredStep, classStep, judgeStep, acted, byteStep, tickStep, requestStep, freshSession, sessionRequest, sessionByte, sessionTick};
+use crate::bills::Bills;
+use crate::bills::booked;
+use crate::line::Line;
+use crate::line::Todo;
+use ccnet_frame::Class;
+use ccnet_frame::body;
+use ccnet_frame::classify;
+use ccnet_frame::write_ack;
+use ccnet_frame::write_command;
+use ccnet_frame::write_nak;
+use numbers::Put;
+
+// Why a call is declined.
+pub enum Declined {
+    // The room lent for sending is too small.
+    Room,
+    // The code is not among the commands, or the data are not what belongs to it.
+    Range,
+    // A command is open.
+    Open,
+    // The line has not been quiet long enough.
+    Unquiet,
+    // As many commands were accepted as may be.
+    Spent,
+    // A tick is not 1 to 1,000 ms.
+    Tick,
+}
+
+impl Declined {
+    // Document 01's number.
+    pub fn number(self) -> u8
+        ensures { λ r. ⌜ r ≡ declinedNumber self ⌝ }
+    {
+        match self {
+            Declined::Room => 1,
+            Declined::Range => 2,
+            Declined::Open => 3,
+            Declined::Unquiet => 4,
+            Declined::Spent => 5,
+            Declined::Tick => 6,
+        }
+    }
+}
+
+// How a call closed the open command, if it did.
+pub enum Closing {
+    Nothing,
+    // By ACK.
+    Acknowledged,
+    // By NAK.
+    Refused,
+    // As an illegal command.
+    Illegal,
+    // With what the answer's body says.
+    Answered(Class),
+    Damaged,
+    Silent,
+}
+
+// What a call answers: why it was declined, or how many bytes it put at the room's start and which closing it made.
+pub enum Reply {
+    Refused(Declined),
+    Done { put: usize, closing: Closing },
+}
+
+// What a step leaves.
+pub struct Step {
+    pub line: Line,
+    // The type of the bill that it credits; none, that is 24, where it credits none.
+    pub bill: usize,
+    pub reply: Reply,
+}
+
+// The session: the line, the bills of each type and the gathering store.
+pub struct Session {
+    pub line: Line,
+    pub bills: [Bills; 24],
+    pub store: [u8; 255],
+}
+
+// What a call by value leaves.
+pub struct Outcome {
+    pub session: Session,
+    pub reply: Reply,
+}
+
+// A gathered frame is bad, or good with what its body says.
+enum Found {
+    Bad,
+    Good(Class),
+}
+
+// POLL's code.
+const POLL: u64 = 0x33;
+
+// ENABLE BILL TYPES, and how many data bytes belong to it.
+const ENABLE: u8 = 0x34;
+
+const ENABLE_DATA: usize = 6;
+
+// The validator's address.
+const VALIDATOR: u8 = 0x03;
+
+// Can a command with that code and so many data bytes be sent?
+fn is_command(code: u8, size: usize) -> bool
+    ensures { λ r. ⌜ r ≡ isCommand code size .test ⌝ }
+{
+    if code == ENABLE {
+        return size == ENABLE_DATA;
+    }
+    if code == 0x30 {
+        return size == 0;
+    }
+    if code == 0x33 {
+        return size == 0;
+    }
+    if code == 0x35 {
+        return size == 0;
+    }
+    if code == 0x36 {
+        return size == 0;
+    }
+    if code == 0x38 {
+        return size == 0;
+    }
+    false
+}
+
+// A step that is done, and credits nothing: so many bytes put, and a closing.
+fn done(line: Line, put: usize, closing: Closing) -> Step
+    ensures { λ r. ⌜ r ≡ stepped line put closing ⌝ }
+{
+    Step {
+        line,
+        bill: Session::TYPES,
+        reply: Reply::Done { put, closing },
+    }
+}
+
+// A step that is declined: the line stays as it was.
+fn not_done(line: Line, why: Declined) -> Step
+    ensures { λ r. ⌜ r ≡ refusedStep line why ⌝ }
+{
+    Step {
+        line,
+        bill: Session::TYPES,
+        reply: Reply::Refused(why),
+    }
+}
+
+// Keeps a byte at its place of the gathering store.
+fn keep(store: &mut [u8], at: usize, b: u8)
+    ensures { λ r. ⌜ now (store .exit) ≡ set (now (store .entry)) at b ⌝ }
+{
+    if at < store.len() {
+        store[at] = b;
+    }
+}
+
+// Clears the gathering store: once for each closing.
+fn clear(store: &mut [u8; 255])
+    ensures { λ r. ⌜ now (store .exit) ≡ zeros ⌝ }
+{
+    *store = [0; 255];
+}
+
+// Sends ACK, and says how many bytes that put.
+fn send_ack(room: &mut [u8]) -> usize
+    requires { ⌜ 255 ≤ length (now room) ⌝ }
+    ensures { λ r. ⌜ sent r (now (room .exit)) ≡ sending ack (now (room .entry)) ⌝ }
+{
+    match write_ack(room) {
+        Put::Bytes(n) => n,
+        Put::Refused(_) => 0,
+    }
+}
+
+// Sends NAK.
+fn send_nak(room: &mut [u8]) -> usize
+    requires { ⌜ 255 ≤ length (now room) ⌝ }
+    ensures { λ r. ⌜ sent r (now (room .exit)) ≡ sending nak (now (room .entry)) ⌝ }
+{
+    match write_nak(room) {
+        Put::Bytes(n) => n,
+        Put::Refused(_) => 0,
+    }
+}
+
+// Sends the command's frame.
+fn send_command(code: u8, given: &[u8], room: &mut [u8]) -> usize
+    requires { ⌜ 255 ≤ length (now room) ⌝ }
+    requires { ⌜ length (now given) ≤ 6 ⌝ }
+    ensures { λ r. ⌜ sent r (now (room .exit)) ≡ sending (frame 0x03 (code ∷ now (given .entry))) (now (room .entry)) ⌝ }
+{
+    match write_command(VALIDATOR, code, given, room) {
+        Put::Bytes(n) => n,
+        Put::Refused(_) => 0,
+    }
+}
+
+// Closes without a reply.
+fn close(line: Line, store: &mut [u8; 255], closing: Closing) -> Step
+    ensures { λ r. ⌜ (r ≡ stepped line 0 closing) × (now (store .exit) ≡ zeros) ⌝ }
+{
+    clear(store);
+    done(line, 0, closing)
+}
+
+// A damaged answer: NAK, and the command is closed.
+fn damaged(line: Line, store: &mut [u8; 255], room: &mut [u8]) -> Step
+    requires { ⌜ 255 ≤ length (now room) ⌝ }
+    ensures { λ r. ⌜ lentAfter r (now (store .exit)) (now (room .exit)) ≡ damagedStep line (now (room .entry)) ⌝ }
+{
+    clear(store);
+    let n = send_nak(room);
+    done(line, n, Closing::Damaged)
+}
+
+// The type that an answer says was stacked; none, where it says something else.
+fn stacked(class: Class) -> usize
+    ensures { λ r. ⌜ r ≡ stackedType class ⌝ }
+{
+    match class {
+        Class::Ack => Session::TYPES,
+        Class::Nak => Session::TYPES,
+        Class::Illegal => Session::TYPES,
+        Class::State(_) => Session::TYPES,
+        Class::Busy(_) => Session::TYPES,
+        Class::Rejecting(_) => Session::TYPES,
+        Class::Failing(_) => Session::TYPES,
+        Class::Escrow(_) => Session::TYPES,
+        Class::Stacked(y) => y as usize,
+        Class::Returned(_) => Session::TYPES,
+        Class::Unknown => Session::TYPES,
+    }
+}
+
+// Is it a listed poll answer?
+fn is_poll_answer(class: Class) -> bool
+    ensures { λ r. ⌜ r ≡ isPollAnswer class ⌝ }
+{
+    match class {
+        Class::Ack => false,
+        Class::Nak => false,
+        Class::Illegal => false,
+        Class::State(_) => true,
+        Class::Busy(_) => true,
+        Class::Rejecting(_) => true,
+        Class::Failing(_) => true,
+        Class::Escrow(_) => true,
+        Class::Stacked(_) => true,
+        Class::Returned(_) => true,
+        Class::Unknown => false,
+    }
+}
+
+// The type of the bill that an answer to that command credits; none, where it credits none.
+fn credit(code: u64, last: usize, class: Class) -> usize
+    ensures { λ r. ⌜ r ≡ credited code last class ⌝ }
+{
+    if code != POLL {
+        return Session::TYPES;
+    }
+    let y = stacked(class);
+    if y == last {
+        return Session::TYPES;
+    }
+    y
+}
+
+// What is remembered once that command has that answer.
+fn memory(code: u64, last: usize, class: Class) -> usize
+    ensures { λ r. ⌜ r ≡ remembered code last class ⌝ }
+{
+    if code != POLL {
+        return last;
+    }
+    if is_poll_answer(class) {
+        return stacked(class);
+    }
+    last
+}
+
+// An answer: ACK, and the command is closed.
+fn answered(line: Line, class: Class, store: &mut [u8; 255], room: &mut [u8]) -> Step
+    requires { ⌜ 255 ≤ length (now room) ⌝ }
+    ensures { λ r. ⌜ lentAfter r (now (store .exit)) (now (room .exit)) ≡ answeredStep line class (now (room .entry)) ⌝ }
+{
+    clear(store);
+    let n = send_ack(room);
+    let bill = credit(line.code, line.last, class);
+    let next = line.remembers(memory(line.code, line.last, class));
+    Step {
+        line: next,
+        bill,
+        reply: Reply::Done {
+            put: n,
+            closing: Closing::Answered(class),
+        },
+    }
+}
+
+// A good answer. ACK, NAK and "illegal" close without a reply.
+fn said(line: Line, class: Class, store: &mut [u8; 255], room: &mut [u8]) -> Step
+    requires { ⌜ 255 ≤ length (now room) ⌝ }
+    ensures { λ r. ⌜ lentAfter r (now (store .exit)) (now (room .exit)) ≡ classStep class line (now (room .entry)) ⌝ }
+{
+    match class {
+        Class::Ack => close(line, store, Closing::Acknowledged),
+        Class::Nak => close(line, store, Closing::Refused),
+        Class::Illegal => close(line, store, Closing::Illegal),
+        _ => answered(line, class, store, room),
+    }
+}
+
+// What a frame is found to be. A good body is never empty, and that of a refused frame always is.
+fn read(frame: &[u8]) -> Found
+    ensures { λ r. ⌜ r ≡ found (now (frame .entry)) ⌝ }
+{
+    let part = body(frame);
+    if part.len() == 0 {
+        return Found::Bad;
+    }
+    Found::Good(classify(part))
+}
+
+// What the gathered frame is found to be; no more than the store holds.
+fn gathered(store: &[u8], want: usize) -> Found
+    ensures { λ r. ⌜ r ≡ found (take want (now (store .entry))) ⌝ }
+{
+    if want <= store.len() {
+        return read(&store[..want]);
+    }
+    read(store)
+}
+
+// Judges the frame, which is full.
+fn judge(line: Line, want: usize, store: &mut [u8; 255], room: &mut [u8]) -> Step
+    requires { ⌜ 255 ≤ length (now room) ⌝ }
+    ensures { λ r. ⌜ lentAfter r (now (store .exit)) (now (room .exit)) ≡ judgeStep line want (now (store .entry)) (now (room .entry)) ⌝ }
+{
+    match gathered(store, want) {
+        Found::Bad => damaged(line, store, room),
+        Found::Good(class) => said(line, class, store, room),
+    }
+}
+
+// Does what the line says, but for bytes of an answer.
+fn act(line: Line, todo: Todo, store: &mut [u8; 255], room: &mut [u8]) -> Step
+    requires { ⌜ 255 ≤ length (now room) ⌝ }
+    ensures { λ r. ⌜ lentAfter r (now (store .exit)) (now (room .exit)) ≡ acted todo line (now (store .entry)) (now (room .entry)) ⌝ }
+{
+    match todo {
+        Todo::Nothing => done(line, 0, Closing::Nothing),
+        Todo::Keep => done(line, 0, Closing::Nothing),
+        Todo::Judge => done(line, 0, Closing::Nothing),
+        Todo::Damage => damaged(line, store, room),
+        Todo::Silence => close(line, store, Closing::Silent),
+    }
+}
+
+// A byte arrives.
+pub fn step_byte(line: Line, store: &mut [u8; 255], b: u8, room: &mut [u8]) -> Step
+    ensures { λ r. ⌜ lentAfter r (now (store .exit)) (now (room .exit)) ≡ byteStep line (now (store .entry)) b (now (room .entry)) ⌝ }
+{
+    if room.len() < Session::ROOM {
+        return not_done(line, Declined::Room);
+    }
+    let at = line.got;
+    let want = line.want;
+    let turn = line.heard(b);
+    let next = turn.line;
+    let todo = turn.todo;
+    match todo {
+        Todo::Keep => {
+            keep(store, at, b);
+            done(next, 0, Closing::Nothing)
+        }
+        Todo::Judge => {
+            keep(store, at, b);
+            judge(next, want, store, room)
+        }
+        _ => act(next, todo, store, room),
+    }
+}
+
+// So many milliseconds pass.
+pub fn step_tick(line: Line, store: &mut [u8; 255], ms: u32, room: &mut [u8]) -> Step
+    ensures { λ r. ⌜ lentAfter r (now (store .exit)) (now (room .exit)) ≡ tickStep line (now (store .entry)) ms (now (room .entry)) ⌝ }
+{
+    if room.len() < Session::ROOM {
+        return not_done(line, Declined::Room);
+    }
+    if ms < 1 {
+        return not_done(line, Declined::Tick);
+    }
+    if Session::TICK < ms {
+        return not_done(line, Declined::Tick);
+    }
+    let turn = line.passed(ms as u64);
+    let next = turn.line;
+    let todo = turn.todo;
+    act(next, todo, store, room)
+}
+
+// A request: a code, and its data.
+pub fn step_request(line: Line, code: u8, given: &[u8], room: &mut [u8]) -> Step
+    ensures { λ r. ⌜ stepAfter r (now (room .exit)) ≡ requestStep line code (now (given .entry)) (now (room .entry)) ⌝ }
+{
+    if room.len() < Session::ROOM {
+        return not_done(line, Declined::Room);
+    }
+    if !is_command(code, given.len()) {
+        return not_done(line, Declined::Range);
+    }
+    if line.is_open() {
+        return not_done(line, Declined::Open);
+    }
+    if 0 < line.left {
+        return not_done(line, Declined::Unquiet);
+    }
+    if Session::COMMANDS <= line.accepted {
+        return not_done(line, Declined::Spent);
+    }
+    let n = send_command(code, given, room);
+    let next = line.opened(code as u64, line.accepted + 1);
+    done(next, n, Closing::Nothing)
+}
+
+impl Session {
+    // Waits, in milliseconds, and limits: document 01, "The validator session".
+    pub const QUIET: u64 = 20;
+
+    pub const START: u64 = 10;
+
+    pub const FRAME: u64 = 400;
+
+    pub const COMMANDS: u64 = 1_000_000;
+
+    pub const ROOM: usize = 255;
+
+    pub const STORE: usize = 255;
+
+    pub const TYPES: usize = 24;
+
+    pub const TICK: u32 = 1_000;
+
+    // No bills, nothing open, zero quiet time, nothing gathered, nothing remembered.
+    pub fn fresh() -> Session
+        ensures { λ r. ⌜ r ≡ freshSession ⌝ }
+    {
+        Session {
+            line: Line::fresh(),
+            bills: [Bills(0); 24],
+            store: [0; 255],
+        }
+    }
+
+    // A request: a code, and its data (none but for ENABLE BILL TYPES).
+    pub fn request(self, code: u8, given: &[u8], room: &mut [u8]) -> Outcome
+        ensures { λ r. ⌜ after r (now (room .exit)) ≡ sessionRequest self code (now (given .entry)) (now (room .entry)) ⌝ }
+    {
+        let line = self.line;
+        let bills = self.bills;
+        let store = self.store;
+        let step = step_request(line, code, given, room);
+        let next = step.line;
+        let reply = step.reply;
+        Outcome {
+            session: Session {
+                line: next,
+                bills,
+                store,
+            },
+            reply,
+        }
+    }
+
+    // A byte from the validator.
+    pub fn byte(self, b: u8, room: &mut [u8]) -> Outcome
+        ensures { λ r. ⌜ after r (now (room .exit)) ≡ sessionByte self b (now (room .entry)) ⌝ }
+    {
+        let line = self.line;
+        let bills = self.bills;
+        let mut store = self.store;
+        let step = step_byte(line, &mut store, b, room);
+        let next = step.line;
+        let bill = step.bill;
+        let reply = step.reply;
+        let counts = booked(bills, bill);
+        Outcome {
+            session: Session {
+                line: next,
+                bills: counts,
+                store,
+            },
+            reply,
+        }
+    }
+
+    // So many milliseconds pass.
+    pub fn tick(self, ms: u32, room: &mut [u8]) -> Outcome
+        ensures { λ r. ⌜ after r (now (room .exit)) ≡ sessionTick self ms (now (room .entry)) ⌝ }
+    {
+        let line = self.line;
+        let bills = self.bills;
+        let mut store = self.store;
+        let step = step_tick(line, &mut store, ms, room);
+        let next = step.line;
+        let bill = step.bill;
+        let reply = step.reply;
+        let counts = booked(bills, bill);
+        Outcome {
+            session: Session {
+                line: next,
+                bills: counts,
+                store,
+            },
+            reply,
+        }
+    }
+}
