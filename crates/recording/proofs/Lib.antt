@@ -5,4 +5,5 @@ pub mod Numbers
 pub mod Trips
 pub mod Back
 pub mod Exact
+pub mod Starts
 pub mod Tied
