@@ -11,9 +11,9 @@ use lib.Arith.{digits-div, digits-mod}
 use lib.Dec.{lit<}
 use lib.ListN.{length, drop, take, getD, drop-of-length-le, take-append-drop}
 use lib.Seq.{drop-cons}
-use borrow.Author.Tests.{le-leb, lt-leb}
+use borrow.Author.Tests.{le-leb, lt-leb, le-ltb}
 use Rattle.numbers.specs.Rules.{under, atMost, same, both}
-use Rattle.numbers.specs.Seven.{groupsIn, groups, groupAfter, afterGroup, readFrom, readGroups, sevenNumber}
+use Rattle.numbers.specs.Seven.{groupsIn, groups, groupAfter, nextGroup, afterGroup, readFrom, readGroups, sevenNumber}
 use Rattle.numbers.specs.Promises.{GroupTrips, Bytes, Unfinished}
 use Rattle.numbers.specs.declared.Group.{Group}
 use Rattle.numbers.specs.declared.Group.the-variants.{More, Last, Wrong}
@@ -59,6 +59,11 @@ unfolding groupAfter
 group-last acc w b h l z =
     simp (lt-leb 128 b h, lt-leb 4_294_967_296 (acc + b % 128 * w) l, fails-false (both (same b 0) (under 1 w)) (λ p. omega (arith, z (p .0))))
 
+-- of a number begun, a reader that is given one group at a time finds the same
+pub next-begun : (acc w b : ℕ) → acc < w → w ≤ 268_435_456 → nextGroup acc w b ≡ groupAfter acc w b
+unfolding nextGroup
+next-begun acc w b h l = simp (lt-leb w acc h, le-ltb 268_435_456 w l)
+
 -- what a group is found to be
 pub data Found (acc w b : ℕ) : Group → Type 0 where
   more : 128 ≤ b → w < 268_435_456 → Found acc w b (More (acc + b % 128 * w) (w * 128))
@@ -96,11 +101,11 @@ pub read-at : (i acc w : ℕ) (s : List ℕ) {g : Group} → i < length s → gr
 unfolding readFrom
 read-at i acc w s h e = rw (← e, add-one, drop-cons s i 0 h)
 
-read-cons : (k acc w b : ℕ) (s : List ℕ) → readFrom k acc w (b ∷ s) ≡ afterGroup (λ a v. readFrom (suc k) a v s) (suc k) (groupAfter acc w b)
+pub read-cons : (k acc w b : ℕ) (s : List ℕ) → readFrom k acc w (b ∷ s) ≡ afterGroup (λ a v. readFrom (suc k) a v s) (suc k) (groupAfter acc w b)
 unfolding readFrom
 read-cons k acc w b s = refl
 
-read-nil : (k acc w : ℕ) → readFrom k acc w [] ≡ Cut
+pub read-nil : (k acc w : ℕ) → readFrom k acc w [] ≡ Cut
 unfolding readFrom
 read-nil k acc w = refl
 

@@ -24,6 +24,8 @@ use Rattle.numbers.proofs.write_decimal.Kinds as write-decimal
 use Rattle.numbers.proofs.write_decimal.Reads as write-decimal-reads
 use Rattle.numbers.proofs.write_groups.Kinds as write-groups
 use Rattle.numbers.proofs.write_groups.Reads as write-groups-reads
+use Rattle.numbers.proofs.next_group.Kinds as next-group
+use Rattle.numbers.proofs.next_group.Reads as next-group-reads
 use Rattle.numbers.proofs.read_groups.Kinds as read-groups
 use Rattle.numbers.proofs.read_groups.Reads as read-groups-reads
 
@@ -68,6 +70,9 @@ write-groups-tied =
 
 pub read-groups-tied : Tied read-groups.ps read-groups.r read-groups-reads.Post (λ κs x e. x)
 read-groups-tied = tied read-groups.ps read-groups.r read-groups-reads.Post (λ κs x e. x) _ (λ κs a x e p. p)
+
+pub next-group-tied : Tied next-group.ps next-group.r next-group-reads.Post (λ κs x e. x)
+next-group-tied = tied next-group.ps next-group.r next-group-reads.Post (λ κs x e. x) _ (λ κs a x e p. p)
 
 pub number-tied : Tied number.ps number.r number-reads.Post (λ κs x e. x)
 number-tied = tied number.ps number.r number-reads.Post (λ κs x e. x) _ (λ κs a x e p. p)

@@ -30,6 +30,10 @@ groupAfter acc w b =
     ∷ [])
     (Last (acc + b % 128 * w))
 
+-- the same, where acc and w may be anything: groups never say w or more, and a fifth is the last, so that what is no number begun becomes none
+unfoldable pub nextGroup : ℕ → ℕ → ℕ → Group
+nextGroup acc w b = firstOf (atMost w acc gives Wrong ∷ under 268_435_456 w gives Wrong ∷ []) (groupAfter acc w b)
+
 -- what reading finds after a group: go on with the rest, the number and how many groups it took, or no number
 abbrev pub afterGroup : (ℕ → ℕ → Seven) → ℕ → Group → Seven
 afterGroup go used (More acc w) = go acc w

@@ -4,7 +4,7 @@ ghost use Prim.Native.Nat.{_+_, _-_, _≤_, _<_};
 ghost use lib.ListN.{length};
 ghost use Rattle.numbers.specs.Rules.{within};
 ghost use Rattle.numbers.specs.Decimal.{digitOf, digits, places, decimal, readDigits};
-ghost use Rattle.numbers.specs.Seven.{groups, groupAfter, readGroups, Begun};
+ghost use Rattle.numbers.specs.Seven.{groups, groupAfter, nextGroup, readGroups, Begun};
 ghost use Rattle.numbers.specs.Put.{refusalNumber, written, writing};
 
 // Why a plain writer refuses.
@@ -151,9 +151,9 @@ pub fn write_groups(n: u32, room: &mut [u8]) -> Put
 }
 
 // What a group makes of a number begun: the number so far and the next weight, the whole number, or no number.
-enum Group {
+pub enum Group {
     More(u64, u64),
-    Last(u64),
+    Last(u32),
     Wrong,
 }
 
@@ -176,9 +176,23 @@ fn group_after(acc: u64, w: u64, b: u8) -> Group
         if 1 < w {
             return Group::Wrong;
         }
-        return Group::Last(n);
+        return Group::Last(n as u32);
     }
-    Group::Last(n)
+    Group::Last(n as u32)
+}
+
+// The same of any two numbers, for a reader that is given one group at a time: what is no number begun becomes none. A number starts with 0 and
+// the weight 1.
+pub fn next_group(acc: u64, w: u64, b: u8) -> Group
+    ensures { λ r. ⌜ r ≡ nextGroup acc w b ⌝ }
+{
+    if w <= acc {
+        return Group::Wrong;
+    }
+    if 268435456 < w {
+        return Group::Wrong;
+    }
+    group_after(acc, w, b)
 }
 
 // What reading a number in groups of seven bits finds: its value and how many bytes it takes, or 01's 21 or 22.
@@ -206,10 +220,7 @@ pub fn read_groups(s: &[u8]) -> Seven
                 w = v;
             }
             Group::Last(n) => {
-                return Seven::Value {
-                    number: n as u32,
-                    used: i,
-                };
+                return Seven::Value { number: n, used: i };
             }
             Group::Wrong => {
                 return Seven::Bad;

@@ -4,7 +4,7 @@ use mathlib.Core.Path.{_≡_, refl, sym, _∙_, subst}
 use Prim.Native.Nat.{_-_, _≤_, _<_}
 use lib.ListN.{length, drop}
 use Rattle.numbers.specs.Seven.{readFrom, readGroups}
-use Rattle.numbers.proofs.Groups.{Weight, first-weight, weight-most, Found, found, found-more, found-last, read-end, read-at}
+use Rattle.numbers.proofs.Groups.{Weight, first-weight, weight-most, Found, found, found-more, read-end, read-at}
 use borrow.Author.Needs.{needs}
 use native.Mathlib.Numerals.{add-one}
 use native.Mathlib.Omega.{arith}
@@ -52,12 +52,6 @@ loop-again c =
 enum-known-n : tie.Need-enum-known-n Inv-loop μ-loop
 enum-known-n c = search needs
 
-cast-t14 : tie.Need-cast-t14 Inv-loop μ-loop
-cast-t14 c =
-    let turn = c .before .before .before .before .before .before .loop in
-    let is = sym (c .before .before .before .group-after .ensures) ∙ c .before .n .given .1 in
-    omega (arith, found-last (subst (Found (turn .acc) (turn .w) _) is (found _ _ _)))
-
 returns : tie.Need-returns Inv-loop μ-loop
 returns c =
     let turn = c .before .before .before .before .before .before .loop in
@@ -92,7 +86,6 @@ read-groups-spec =
     loop-less
     loop-again
     enum-known-n
-    cast-t14
     returns
     enum-told
     returns-2

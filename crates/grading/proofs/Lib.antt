@@ -1,0 +1,5 @@
+pub mod Adding
+pub mod Lines
+pub mod Steps
+pub mod Loops
+pub mod Tied

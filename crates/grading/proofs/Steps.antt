@@ -1,0 +1,30 @@
+-- The validator session's part in a record. Assumes nothing.
+use mathlib.Core.Path.{_≡_, ap, ap₂}
+use Rattle.dispenser.specs.Session.{After, StepAfter as Done, bookedBy}
+use Rattle.dispenser.specs.declared.session.Session.{Session}
+use Rattle.validator.specs.Session.{LentAfter, StepAfter, afterStep}
+use Rattle.grading.specs.Replay.{Desk, byValidator, byBoth}
+
+-- a byte, whose step is w by its contract
+pub by-byte : (d : Desk) {w v : LentAfter} → w ≡ v → byValidator d (afterStep (d .validator) w) ≡ byValidator d (afterStep (d .validator) v)
+by-byte d e = ap (λ (x : LentAfter). byValidator d (afterStep (d .validator) x)) e
+
+-- a request
+pub by-request : (d : Desk) {w v : StepAfter} → w ≡ v
+    → byValidator d (record { session = record { line = w .step .line; bills = d .validator .bills; store = d .validator .store }; reply = w .step .reply; room = w .room })
+    ≡ byValidator d (record { session = record { line = v .step .line; bills = d .validator .bills; store = d .validator .store }; reply = v .step .reply; room = v .room })
+by-request d e =
+    ap (λ (x : StepAfter). byValidator d (record { session = record { line = x .step .line; bills = d .validator .bills; store = d .validator .store }; reply = x .step .reply; room = x .room })) e
+
+-- a tick, for both
+abbrev ticked : Session → Done → After
+ticked s w =
+    record {
+      session = record { line = w .line; asked = s .asked; account = bookedBy (s .account) (s .asked) (w .reply); store = s .store };
+      reply = w .reply;
+      room = w .room;
+    }
+
+pub by-tick : (d : Desk) {x y : Done} {w v : LentAfter} → x ≡ y → w ≡ v
+    → byBoth d (ticked (d .dispenser) x) (afterStep (d .validator) w) ≡ byBoth d (ticked (d .dispenser) y) (afterStep (d .validator) v)
+by-tick d e f = ap₂ (λ (x : Done) (w : LentAfter). byBoth d (ticked (d .dispenser) x) (afterStep (d .validator) w)) e f

@@ -1,0 +1,41 @@
+-- `grading::desk::booked` meets its contract. Assumes nothing.
+use borrow.Author.Needs.{needs}
+use Rattle.grading.proofs.desk.booked.Statement.{statement}
+use Rattle.grading.proofs.desk.booked.Tie as tie
+
+enum-told : tie.Need-enum-told
+enum-told c = search needs
+
+enum-known-entry : tie.Need-enum-known-entry
+enum-known-entry c = search needs
+
+booked-request-requires : tie.Need-booked-request-requires
+booked-request-requires c κs = search needs
+
+enum-known-entry-2 : tie.Need-enum-known-entry-2
+enum-known-entry-2 c = search needs
+
+booked-requires : tie.Need-booked-requires
+booked-requires c κs = search needs
+
+returns : tie.Need-returns
+returns c = search needs
+
+returns-2 : tie.Need-returns-2
+returns-2 c = rw (c .before .before .entry .given .1) (c .booked-request .ensures)
+
+returns-3 : tie.Need-returns-3
+returns-3 c = rw (c .before .before .entry2 .given .1) (c .booked .ensures)
+
+pub booked-spec : {M : Type 1} → statement M
+booked-spec =
+    tie.close
+    (tie.spec
+    enum-told
+    enum-known-entry
+    booked-request-requires
+    enum-known-entry-2
+    booked-requires
+    returns
+    returns-2
+    returns-3)

@@ -1,0 +1,41 @@
+-- `grading::desk::commanded` meets its contract. Assumes nothing.
+use Rattle.validator.specs.Session.{sessionRequest}
+use Rattle.validator.specs.Bills.{bookedBy}
+use Rattle.grading.specs.Replay.{joined}
+use Rattle.grading.proofs.Steps.{by-request}
+use borrow.Author.Needs.{needs}
+use Rattle.grading.proofs.desk.commanded.Statement.{statement}
+use Rattle.grading.proofs.desk.commanded.Tie as tie
+
+slice-aggregate-step-request : tie.Need-slice-aggregate-step-request
+slice-aggregate-step-request c = search needs
+
+step-request-requires : tie.Need-step-request-requires
+step-request-requires c κs = search needs
+
+is-declined-too-requires : tie.Need-is-declined-too-requires
+is-declined-too-requires c κs = search needs
+
+counted-requires : tie.Need-counted-requires
+counted-requires c κs = search needs
+
+add-t17 : tie.Need-add-t17
+add-t17 c = search needs
+
+returns : tie.Need-returns
+unfolding sessionRequest bookedBy
+returns c =
+    λ a bs store second room.
+    let args = c .before .before .before .before .before .before .before .before .before .before .args in
+    simp (c .before .counted .ensures, c .before .before .is-declined-too .ensures) (by-request (joined (args .run) a bs store second room (args .wide .now)) (c .before .before .before .before .step-request .ensures))
+
+pub commanded-spec : {M : Type 1} → statement M
+commanded-spec =
+    tie.close
+    (tie.spec
+    slice-aggregate-step-request
+    step-request-requires
+    is-declined-too-requires
+    counted-requires
+    add-t17
+    returns)

@@ -1,0 +1,26 @@
+-- `grading::desk::dispenser_byte` meets its contract. Assumes nothing.
+use Rattle.dispenser.specs.Session.{sessionByte}
+use Rattle.validator.specs.Bills.{bookedBy}
+use borrow.Author.Needs.{needs}
+use Rattle.grading.proofs.desk.dispenser_byte.Statement.{statement}
+use Rattle.grading.proofs.desk.dispenser_byte.Tie as tie
+
+step-byte-requires : tie.Need-step-byte-requires
+step-byte-requires c κs = search needs
+
+is-declined-requires : tie.Need-is-declined-requires
+is-declined-requires c κs = search needs
+
+counted-requires : tie.Need-counted-requires
+counted-requires c κs = search needs
+
+add-t16 : tie.Need-add-t16
+add-t16 c = search needs
+
+returns : tie.Need-returns
+unfolding sessionByte bookedBy
+returns c = λ a bs second wide. simp (← c .before .before .before .before .step-byte .ensures, c .before .counted .ensures, c .before .before .is-declined .ensures)
+
+pub dispenser-byte-spec : {M : Type 1} → statement M
+dispenser-byte-spec =
+    tie.close (tie.spec step-byte-requires is-declined-requires counted-requires add-t16 returns)

@@ -1,0 +1,27 @@
+-- `grading::desk::requested` meets its contract. Assumes nothing.
+use Rattle.dispenser.specs.Session.{sessionRequest}
+use Rattle.validator.specs.Bills.{bookedBy}
+use borrow.Author.Needs.{needs}
+use Rattle.grading.proofs.desk.requested.Statement.{statement}
+use Rattle.grading.proofs.desk.requested.Tie as tie
+
+step-request-requires : tie.Need-step-request-requires
+step-request-requires c κs = search needs
+
+is-declined-requires : tie.Need-is-declined-requires
+is-declined-requires c κs = search needs
+
+counted-requires : tie.Need-counted-requires
+counted-requires c κs = search needs
+
+add-t17 : tie.Need-add-t17
+add-t17 c = search needs
+
+returns : tie.Need-returns
+unfolding sessionRequest bookedBy
+returns c = λ a bs store second wide. simp (← c .before .before .before .before .before .step-request .ensures, c .before .counted .ensures, c .before .before .is-declined .ensures)
+
+pub requested-spec : {M : Type 1} → statement M
+requested-spec =
+    tie.close
+    (tie.spec step-request-requires is-declined-requires counted-requires add-t17 returns)

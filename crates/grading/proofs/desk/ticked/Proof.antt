@@ -1,0 +1,52 @@
+-- `grading::desk::ticked` meets its contract. Assumes nothing.
+use Rattle.dispenser.specs.Session.{sessionTick}
+use Rattle.validator.specs.Session.{sessionTick as tickToo}
+use Rattle.grading.specs.Replay.{joined}
+use Rattle.grading.proofs.Steps.{by-tick}
+use borrow.Author.Needs.{needs}
+use native.Mathlib.Omega.{arith}
+use Rattle.grading.proofs.desk.ticked.Statement.{statement}
+use Rattle.grading.proofs.desk.ticked.Tie as tie
+use Rattle.validator.proofs.step_tick.Reads as session-step-tick-reads′
+
+step-tick-requires : tie.Need-step-tick-requires
+step-tick-requires c κs = search needs
+
+step-tick-requires-2 : tie.Need-step-tick-requires-2
+step-tick-requires-2 c κs = search needs
+
+is-declined-requires : tie.Need-is-declined-requires
+is-declined-requires c κs = search needs
+
+is-declined-too-requires : tie.Need-is-declined-too-requires
+is-declined-too-requires c κs = search needs
+
+either-requires : tie.Need-either-requires
+either-requires c κs = search needs
+
+counted-requires : tie.Need-counted-requires
+counted-requires c κs = search needs
+
+add-t25 : tie.Need-add-t25
+add-t25 c = record { fits = omega (arith, c .before .before .before .before .before .before .before .before .before .before .before .before .before .before .before .pre .1) }
+
+returns : tie.Need-returns
+unfolding sessionTick tickToo
+returns c =
+    λ a bs store.
+    let args = c .before .before .before .before .before .before .before .before .before .before .before .before .before .before .before .args in
+    simp (c .before .counted .ensures, c .before .before .either .ensures, c .before .before .before .is-declined-too .ensures, c .before .before .before .before .is-declined .ensures)
+    (by-tick (joined (args .run) a bs store (args .second .now) (args .room .now) (args .wide .now)) (c .before .before .before .before .before .before .before .before .before .before .step-tick .ensures) (c .before .before .before .before .before .before .step-tick2 .ensures))
+
+pub ticked-spec : {M : Type 1} → statement M
+ticked-spec =
+    tie.close
+    (tie.spec
+    step-tick-requires
+    step-tick-requires-2
+    is-declined-requires
+    is-declined-too-requires
+    either-requires
+    counted-requires
+    add-t25
+    returns)

@@ -1,0 +1,4 @@
+-- What the contracts of `grading` cite.
+pub mod Replay
+pub mod Text
+pub mod Report

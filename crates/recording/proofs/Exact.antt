@@ -1,0 +1,157 @@
+-- A recording is good exactly where it is the bytes of records, and bad exactly as its first record that is none says. Assumes nothing.
+use Prim.Native.Nat.{ℕ, zero, suc, _+_, _≤_, _<_}
+use mathlib.Core.Path.{_≡_, refl, sym, ap, _∙_, subst}
+use mathlib.Core.List.{List, [], _∷_, _++_, append-assoc, append-nil}
+use mathlib.Core.Logic.{_↔_}
+use native.Mathlib.Nat.{le-refl}
+use native.Mathlib.Omega.{arith}
+use lib.ListN.{length, length-append}
+use Rattle.numbers.specs.Rules.{under}
+use Rattle.numbers.specs.Promises.{Bytes}
+use Rattle.numbers.proofs.Rules.{by-cases}
+use Rattle.recording.specs.Record.{faultNumber, mostBytes, kindOf, numbersOf, howMany, laidNumbers, recordBytes, InRange, laid, AllInRange}
+use Rattle.recording.specs.Reading.{Reading, records, bad, freshReader, ended, readByte, also, went, readingFrom, readRecording}
+use Rattle.recording.specs.Promises.{Faulty, kind, value, number, cut, Breaks, ExactlyWhen}
+use Rattle.recording.specs.declared.Fault.{Fault}
+use Rattle.recording.specs.declared.Fault.the-variants.{BadNumber, Cut, Unknown, Long}
+use Rattle.recording.specs.declared.Record.{Record}
+use Rattle.recording.specs.declared.Reader.{Reader}
+use Rattle.recording.specs.declared.Took.{Took}
+use Rattle.recording.specs.declared.Heard.{Heard}
+use Rattle.recording.proofs.Folds.{reading-nil, reading-cons, reading-short, reading-long}
+use Rattle.recording.proofs.Trips.{laid-none, KindSays, listed, unlisted, kind-says, Rest, whole, fault, rests}
+use Rattle.recording.proofs.Back.{length-record, bytes-record, alsos, alsos-bad, alsos-none, records-back, faulty-back}
+
+-- ---- what is said of bytes that start at an offset is so
+
+abbrev Said : ℕ → List ℕ → Reading → Type 0
+Said at s (records xs) = AllInRange xs × (s ≡ laid xs)
+Said at s (bad why q) = (i : ℕ) × ((q ≡ at + i) × Breaks why i s)
+
+none-laid : laid [] ≡ []
+unfolding laid
+none-laid = refl
+
+more-laid : (x : Record) (xs : List Record) → laid (x ∷ xs) ≡ recordBytes x ++ laid xs
+unfolding laid
+more-laid x xs = refl
+
+-- at the first byte
+first : {why : Fault} {s : List ℕ} (at : ℕ) → Faulty why s → Said at s (bad why at)
+first {s} at f =
+    (0, (omega arith, record { good = []; rest = s; fit = tt; are = sym (ap (λ (l : List ℕ). l ++ s) none-laid); place = sym (ap length none-laid); fault = f }))
+
+-- behind a record
+later : (at : ℕ) (x : Record) (t : List ℕ) (g : Reading) → InRange x → Said (at + length (recordBytes x)) t g → Said at (recordBytes x ++ t) (also x g)
+later at x t (records xs) i h = ((i, h .0), ap (λ (l : List ℕ). recordBytes x ++ l) (h .1) ∙ sym (more-laid x xs))
+later at x t (bad why q) i h =
+    let b = h .1 .1 in
+    let m = more-laid x (b .good) in (
+      length (recordBytes x) + h .0,
+      (
+        omega (arith, h .1 .0),
+        record {
+          good = x ∷ b .good;
+          rest = b .rest;
+          fit = (i, b .fit);
+          are = ap (λ (l : List ℕ). recordBytes x ++ l) (b .are) ∙ sym (append-assoc (recordBytes x) (laid (b .good)) (b .rest)) ∙ ap (λ (l : List ℕ). l ++ b .rest) (sym m);
+          place = omega (arith, b .place, simp length-append at (ap length m));
+          fault = b .fault;
+        },
+      ),
+    )
+
+bytes-behind : (l t : List ℕ) → Bytes (l ++ t) → Bytes t
+bytes-behind [] t h = h
+bytes-behind (b ∷ l) t h = bytes-behind l t (λ i. h (suc i))
+
+-- what the bytes behind a kind byte say
+record-said : (at k : ℕ) (u : List ℕ) {o : Reading} → Rest at k [] (suc at) u o
+    → ((rest l : List ℕ) → u ≡ l ++ rest → (q : ℕ) → Said q rest (readingFrom freshReader q rest)) → Said at (k ∷ u) o
+record-said at k u (whole x ms rest kx nx i f g) go =
+    let l = length-record x in
+    let n : length (laidNumbers (numbersOf x)) ≡ length (laidNumbers ms) = ap (λ (y : List ℕ). length (laidNumbers y)) nx in
+    let bytes : recordBytes x ++ rest ≡ k ∷ u
+    = bytes-record x rest ∙ ap (λ (j : ℕ). j ∷ laidNumbers (numbersOf x) ++ rest) kx ∙ ap (λ (y : List ℕ). k ∷ laidNumbers y ++ rest) nx ∙ ap (λ (y : List ℕ). k ∷ y) (sym f) in
+    let place : at + length (recordBytes x) ≡ suc at + length (laidNumbers ms) = omega (arith, l, n) in
+    subst (Said at (k ∷ u)) (sym g)
+    (subst (λ (y : List ℕ). Said at y (also x (readingFrom freshReader (suc at + length (laidNumbers ms)) rest))) bytes
+    (later at x rest (readingFrom freshReader (suc at + length (laidNumbers ms)) rest) i (subst (λ (q : ℕ). Said q rest (readingFrom freshReader (suc at + length (laidNumbers ms)) rest)) (sym place) (go rest (laidNumbers ms) f (suc at + length (laidNumbers ms))))))
+record-said at k u (fault why f g) go = subst (Said at (k ∷ u)) (sym g) (first at (subst (λ (l : List ℕ). Faulty why (k ∷ l)) (ap (λ (y : List ℕ). y ++ u) laid-none) f))
+
+-- a record, and then what is said of any shorter bytes
+one-said : (s : List ℕ) → Bytes s → ((t : List ℕ) → length t < length s → Bytes t → (q : ℕ) → Said q t (readingFrom freshReader q t))
+    → (at : ℕ) → Said at s (readingFrom freshReader at s)
+unfolding ended
+one-said [] h go at = rw reading-nil (tt, sym none-laid)
+one-said (k ∷ u) h go at =
+    rw (reading-cons freshReader at k u)
+    (by (λ rest x e q. go rest (omega (arith, simp length-append at (ap length e))) (bytes-behind x rest (subst Bytes e (λ i. h (suc i)))) q) (kind-says at k))
+  where
+    by : ((rest x : List ℕ) → u ≡ x ++ rest → (q : ℕ) → Said q rest (readingFrom freshReader q rest))
+        → {x : Took} → KindSays at k x → Said at (k ∷ u) (went (x .heard) (readingFrom (x .reader) (suc at) u))
+    by go (listed r s a w) = record-said at k u (rests (howMany k) (omega arith) s a w tt (suc at) u (λ i. h (suc i))) go
+    by go (unlisted x more e) =
+        subst (Said at (k ∷ u)) (sym (ap (λ (y : Heard). went y (readingFrom (x .reader) (suc at) u)) e)) (first at (kind k u more))
+
+said : (f : ℕ) (s : List ℕ) → length s ≤ f → Bytes s → (at : ℕ) → Said at s (readingFrom freshReader at s)
+said zero s l h at = one-said s h (λ t m. absurd (omega arith)) at
+said (suc f) s l h at = one-said s h (λ t m. said f t (omega arith)) at
+
+-- ---- both ways
+
+good-to : (s : List ℕ) (xs : List Record) → Bytes s → readingFrom freshReader 0 s ≡ records xs → AllInRange xs × (s ≡ laid xs)
+good-to s xs h e = subst (Said 0 s) e (said (length s) s (le-refl (length s)) h 0)
+
+good-from : (s : List ℕ) (xs : List Record) → AllInRange xs → s ≡ laid xs → readingFrom freshReader 0 s ≡ records xs
+unfolding ended
+good-from s xs i e =
+    ap (readingFrom freshReader 0) (e ∙ sym (append-nil (laid xs)))
+    ∙ records-back xs i 0 []
+    ∙ ap (alsos xs) (reading-nil freshReader (0 + length (laid xs)))
+    ∙ alsos-none xs
+
+broken-to : (s : List ℕ) (why : Fault) (at : ℕ) → Bytes s → readingFrom freshReader 0 s ≡ bad why at → Breaks why at s
+broken-to s why at h e =
+    let b = subst (Said 0 s) e (said (length s) s (le-refl (length s)) h 0) in
+    subst (λ (q : ℕ). Breaks why q s) (omega (arith, b .1 .0)) (b .1 .1)
+
+broken-from : (s : List ℕ) (why : Fault) (at : ℕ) → Breaks why at s → readingFrom freshReader 0 s ≡ bad why at
+broken-from s why at b =
+    ap (readingFrom freshReader 0) (b .are)
+    ∙ records-back (b .good) (b .fit) 0 (b .rest)
+    ∙ ap (alsos (b .good)) (faulty-back (b .fault) (0 + length (laid (b .good))) ∙ ap (bad why) (omega (arith, b .place)))
+    ∙ alsos-bad (b .good) why at
+
+-- no recording is too long by what it holds
+not-long : {why : Fault} {s : List ℕ} → Faulty why s → why ≡ Long → ⊥
+not-long (kind k t h) e = omega (arith, ap faultNumber e)
+not-long (value k ns t h l b n) e = omega (arith, ap faultNumber e)
+not-long (number k ns t h l b n) e = omega (arith, ap faultNumber e)
+not-long (cut k ns t h l b n) e = omega (arith, ap faultNumber e)
+
+apart : {xs : List Record} {why : Fault} {at : ℕ} → bad why at ≡ records xs → ⊥
+apart e = let z : _≡_ {A = ℕ} 0 1 = cc in omega arith
+
+pub exactly-when : ExactlyWhen
+exactly-when =
+    record {
+      good = λ s xs h. (
+        λ e.
+            by-cases (under mostBytes (length s))
+            (λ l. absurd (apart (sym (reading-long s l) ∙ e)))
+            (λ n. let l : length s ≤ mostBytes = omega arith in let r = good-to s xs h (sym (reading-short s l) ∙ e) in (l, r .0, r .1)),
+        λ r. reading-short s (r .0) ∙ good-from s xs (r .1) (r .2),
+      );
+      broken = λ s why at h l. (
+        λ e. broken-to s why at h (sym (reading-short s l) ∙ e),
+        λ b. reading-short s l ∙ broken-from s why at b,
+      );
+      long = λ s at h. (
+        λ e.
+            by-cases (under mostBytes (length s))
+            (λ l. let r : bad Long 0 ≡ bad Long at = sym (reading-long s l) ∙ e in let z : 0 ≡ at = cc in (l, sym z))
+            (λ n. absurd (not-long (broken-to s Long at h (sym (reading-short s (omega arith)) ∙ e) .fault) refl)),
+        λ r. reading-long s (r .0) ∙ ap (bad Long) (sym (r .1)),
+      );
+    }

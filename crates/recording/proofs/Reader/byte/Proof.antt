@@ -1,0 +1,26 @@
+-- `recording::Reader::byte` meets its contract. Assumes nothing.
+use mathlib.Core.Path.{_≡_, refl, sym, ap, _∙_}
+use Rattle.recording.specs.Reading.{readByte}
+use Rattle.recording.proofs.Places.{begun-byte}
+use borrow.Author.Needs.{needs}
+use Rattle.recording.proofs.Reader.byte.Statement.{statement}
+use Rattle.recording.proofs.Reader.byte.Tie as tie
+
+enum-told : tie.Need-enum-told
+enum-told c = search needs
+
+kind-requires : tie.Need-kind-requires
+kind-requires c κs = search needs
+
+group-requires : tie.Need-group-requires
+group-requires c κs = search needs
+
+returns : tie.Need-returns
+unfolding readByte
+returns c = simp (c .before .enum-told .given .1, c .kind .ensures)
+
+returns-2 : tie.Need-returns-2
+returns-2 c = c .group .ensures ∙ sym (begun-byte (c .before .before .args .self) (c .before .before .args .at) (c .before .before .args .b) (c .before .match .keys2))
+
+pub byte-spec : {M : Type 1} → statement M
+byte-spec = tie.close (tie.spec enum-told kind-requires group-requires returns returns-2)

@@ -1,0 +1,27 @@
+-- `recording::Reader::dispenser_byte` meets its contract. Assumes nothing.
+use Rattle.recording.specs.Reading.{byteRead}
+use Rattle.numbers.proofs.Rules.{tests}
+use borrow.Author.Needs.{needs}
+use Rattle.recording.proofs.Reader.dispenser_byte.Statement.{statement}
+use Rattle.recording.proofs.Reader.dispenser_byte.Tie as tie
+
+refused-requires : tie.Need-refused-requires
+refused-requires c κs = search needs
+
+returns : tie.Need-returns
+unfolding byteRead
+returns c = search (tests, ← c .refused .ensures)
+
+cast-t5 : tie.Need-cast-t5
+cast-t5 c = search needs
+
+whole-requires : tie.Need-whole-requires
+whole-requires c κs = search needs
+
+returns-2 : tie.Need-returns-2
+unfolding byteRead
+returns-2 c = search (tests, ← c .whole .ensures)
+
+pub dispenser-byte-spec : {M : Type 1} → statement M
+dispenser-byte-spec =
+    tie.close (tie.spec refused-requires returns cast-t5 whole-requires returns-2)

@@ -1,0 +1,28 @@
+-- No contract of this crate leaves a choice: two outcomes that it allows for the same arguments coincide. Said of the contracts themselves,
+-- since each is one equation. Assumes nothing.
+use Rattle.numbers.proofs.Tied.{Tied, tied}
+use Rattle.recording.proofs.Fault.number.Kinds as fault-number
+use Rattle.recording.proofs.Fault.number.Reads as fault-number-reads
+use Rattle.recording.proofs.Reader.fresh.Kinds as fresh
+use Rattle.recording.proofs.Reader.fresh.Reads as fresh-reads
+use Rattle.recording.proofs.Reader.byte.Kinds as byte
+use Rattle.recording.proofs.Reader.byte.Reads as byte-reads
+use Rattle.recording.proofs.Reader.ended.Kinds as ended
+use Rattle.recording.proofs.Reader.ended.Reads as ended-reads
+use Rattle.recording.proofs.judge.Kinds as judge
+use Rattle.recording.proofs.judge.Reads as judge-reads
+
+pub fault-number-tied : Tied fault-number.ps fault-number.r fault-number-reads.Post (λ κs x e. x)
+fault-number-tied = tied fault-number.ps fault-number.r fault-number-reads.Post (λ κs x e. x) _ (λ κs a x e p. p)
+
+pub fresh-tied : Tied fresh.ps fresh.r fresh-reads.Post (λ κs x e. x)
+fresh-tied = tied fresh.ps fresh.r fresh-reads.Post (λ κs x e. x) _ (λ κs a x e p. p)
+
+pub byte-tied : Tied byte.ps byte.r byte-reads.Post (λ κs x e. x)
+byte-tied = tied byte.ps byte.r byte-reads.Post (λ κs x e. x) _ (λ κs a x e p. p)
+
+pub ended-tied : Tied ended.ps ended.r ended-reads.Post (λ κs x e. x)
+ended-tied = tied ended.ps ended.r ended-reads.Post (λ κs x e. x) _ (λ κs a x e p. p)
+
+pub judge-tied : Tied judge.ps judge.r judge-reads.Post (λ κs x e. x)
+judge-tied = tied judge.ps judge.r judge-reads.Post (λ κs x e. x) _ (λ κs a x e p. p)

@@ -1,0 +1,81 @@
+-- `recording::judge` meets its contract. The invariant: the reader goes on from i as the whole recording is judged. Assumes nothing.
+use mathlib.Core.Path.{_≡_, refl, sym, ap, _∙_}
+use Prim.Native.Nat.{_-_, _≤_}
+use lib.ListN.{length, drop}
+use Rattle.recording.specs.Reading.{readingFrom, verdictOf, verdict}
+use Rattle.recording.proofs.Folds.{reading-short, reading-long, reading-end, reading-bad, reading-on, verdict-closing}
+use borrow.Author.Needs.{needs}
+use Rattle.recording.proofs.judge.Statement.{statement}
+use Rattle.recording.proofs.judge.Tie as tie
+
+abbrev Inv-loop : tie.InvT-loop
+Inv-loop recording reader₀ i₀ reader i = (i ≤ length recording) × (verdictOf (readingFrom reader i (drop i recording)) ≡ verdict recording)
+
+abbrev μ-loop : tie.MeasureT-loop
+μ-loop recording reader₀ i₀ reader i = length recording - i
+
+returns : tie.Need-returns Inv-loop μ-loop
+unfolding verdict
+returns c = sym (ap verdictOf (reading-long _ (c .if1 .taken)))
+
+fresh-requires : tie.Need-fresh-requires Inv-loop μ-loop
+fresh-requires c κs = search needs
+
+loop-holds : tie.Need-loop-holds Inv-loop μ-loop
+unfolding verdict
+loop-holds c = (search needs, rw (c .fresh .ensures) (sym (ap verdictOf (reading-short _ (search needs)))))
+
+shared-slice-read-byte : tie.Need-shared-slice-read-byte Inv-loop μ-loop
+shared-slice-read-byte c = search needs
+
+byte-requires : tie.Need-byte-requires Inv-loop μ-loop
+byte-requires c κs = search needs
+
+enum-known-heard : tie.Need-enum-known-heard Inv-loop μ-loop
+enum-known-heard c = search needs
+
+returns-2 : tie.Need-returns-2 Inv-loop μ-loop
+returns-2 c =
+    let turn = c .before .before .before .before .before .before .loop in
+    let is = reading-bad (turn .reader) _ (turn .i) (c .before .before .before .before .before .loop-test .taken) (c .before .before .before .byte .result) (c .before .before .before .byte .ensures) (c .before .heard .given .1) in
+    sym (ap verdictOf is) ∙ turn .inv .1
+
+add-i : tie.Need-add-i Inv-loop μ-loop
+add-i c = search needs
+
+loop-less : tie.Need-loop-less Inv-loop μ-loop
+loop-less c = search needs
+
+loop-again : tie.Need-loop-again Inv-loop μ-loop
+loop-again c =
+    let turn = c .before .before .before .before .before .loop in (
+      search needs,
+      sym (reading-on (turn .reader) _ (turn .i) (c .before .before .before .before .loop-test .taken) (c .before .before .byte .result) (c .before .before .byte .ensures) (c .before .match .keys2)) ∙ turn .inv .1,
+    )
+
+ended-requires : tie.Need-ended-requires Inv-loop μ-loop
+ended-requires c κs = search needs
+
+returns-3 : tie.Need-returns-3 Inv-loop μ-loop
+returns-3 c =
+    let end = c .before .before .loop in
+    c .ended .ensures ∙ sym (verdict-closing _) ∙ sym (ap verdictOf (reading-end (end .reader) (end .i) _ (end .i) (c .before .loop-test .left))) ∙ end .inv .1
+
+pub judge-spec : {M : Type 1} → statement M
+judge-spec =
+    tie.close
+    (tie.spec
+    Inv-loop
+    μ-loop
+    returns
+    fresh-requires
+    loop-holds
+    shared-slice-read-byte
+    byte-requires
+    enum-known-heard
+    returns-2
+    add-i
+    loop-less
+    loop-again
+    ended-requires
+    returns-3)

@@ -1,0 +1,4 @@
+-- What the contracts of `recording` cite.
+pub mod Record
+pub mod Reading
+pub mod Promises

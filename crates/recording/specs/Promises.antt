@@ -1,0 +1,44 @@
+-- What is promised of recordings: each record read is what its bytes say, and each of 21 to 24 is given exactly when 01 says. Proved in
+-- proofs/Exact.antt.
+use Prim.Native.Nat.{ℕ, _+_, _≤_, _<_}
+use mathlib.Core.Path.{_≡_}
+use mathlib.Core.List.{List, [], _∷_, _++_}
+use mathlib.Core.Logic.{_↔_}
+use lib.ListN.{length}
+use Rattle.numbers.specs.Promises.{Bytes}
+use Rattle.numbers.specs.Seven.{readGroups}
+use Rattle.numbers.specs.declared.Seven.the-variants.{Bad as NoNumber, Cut as NoEnd}
+use Rattle.recording.specs.Record.{mostBytes, howMany, takes, AllBelow, laidNumbers, recordBytes, InRange, laid, AllInRange}
+use Rattle.recording.specs.Reading.{Reading, records, bad, freshReader, also, readingFrom, readRecording}
+use Rattle.recording.specs.declared.Fault.{Fault}
+use Rattle.recording.specs.declared.Fault.the-variants.{BadNumber, Cut, Unknown, Long}
+use Rattle.recording.specs.declared.Record.{Record}
+
+-- why no record stands at the start of these bytes: an unknown kind; its numbers ns, and not the values that its kind takes; fewer numbers than
+-- it has, and then bytes that are no number, or an end before the last group of one
+pub data Faulty : Fault → List ℕ → Type 0 where
+  kind : (k : ℕ) (t : List ℕ) → 4 < k → Faulty Unknown (k ∷ t)
+  value : (k : ℕ) (ns t : List ℕ) → k ≤ 4 → length ns ≡ howMany k → AllBelow ns → (takes k ns .holds → ⊥) → Faulty Unknown (k ∷ laidNumbers ns ++ t)
+  number : (k : ℕ) (ns t : List ℕ) → k ≤ 4 → length ns < howMany k → AllBelow ns → readGroups t ≡ NoNumber → Faulty BadNumber (k ∷ laidNumbers ns ++ t)
+  cut : (k : ℕ) (ns t : List ℕ) → k ≤ 4 → length ns < howMany k → AllBelow ns → readGroups t ≡ NoEnd → Faulty Cut (k ∷ laidNumbers ns ++ t)
+
+-- good records, and behind them, at an offset, one that is none
+pub record Breaks (why : Fault) (at : ℕ) (s : List ℕ) : Type 0 where
+  pub good : List Record
+  pub rest : List ℕ
+  pub fit : AllInRange good
+  pub are : s ≡ laid good ++ rest
+  pub place : at ≡ length (laid good)
+  pub fault : Faulty why rest
+
+-- every record that a recording can hold is read from its bytes, whatever follows, and the reader is then between records again
+abbrev pub ReadsBack : Type 0
+ReadsBack = (x : Record) → InRange x → (at : ℕ) (t : List ℕ)
+    → readingFrom freshReader at (recordBytes x ++ t) ≡ also x (readingFrom freshReader (at + length (recordBytes x)) t)
+
+-- a recording is good exactly where it is the bytes of records, and its records are those; 21, 22 and 23 exactly where the first record that
+-- is none shows that fault, with its offset; 24 exactly where it is over 65,536 bytes, at offset 0, whatever else it holds
+pub record ExactlyWhen : Type 0 where
+  pub good : (s : List ℕ) (xs : List Record) → Bytes s → (readRecording s ≡ records xs) ↔ ((length s ≤ mostBytes) × AllInRange xs × (s ≡ laid xs))
+  pub broken : (s : List ℕ) (why : Fault) (at : ℕ) → Bytes s → length s ≤ mostBytes → (readRecording s ≡ bad why at) ↔ Breaks why at s
+  pub long : (s : List ℕ) (at : ℕ) → Bytes s → (readRecording s ≡ bad Long at) ↔ ((mostBytes < length s) × (at ≡ 0))

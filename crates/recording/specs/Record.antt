@@ -1,0 +1,87 @@
+-- A record and its bytes (01, "Recording and report": "A record is one kind byte and then its numbers").
+use Prim.Native.Nat.{ℕ, zero, suc, _<_}
+use mathlib.Core.List.{List, [], _∷_, _++_}
+use lib.ListN.{getD}
+use Rattle.numbers.specs.Rules.{Condition, always, never, atMost}
+use Rattle.numbers.specs.Seven.{groups}
+use Rattle.dispenser_frame.specs.Table.{known}
+use Rattle.dispenser_frame.specs.Errors.{among}
+use Rattle.recording.specs.declared.Fault.{Fault}
+use Rattle.recording.specs.declared.Fault.the-variants.{BadNumber, Cut, Unknown, Long}
+use Rattle.recording.specs.declared.Record.{Record}
+use Rattle.recording.specs.declared.Record.the-variants.{Request, DispenserByte, Tick, ValidatorByte, Command}
+
+-- 01's number for each fault: "bad number; cut short; unknown kind or value; over 65,536 bytes"
+abbrev pub faultNumber : Fault → ℕ
+faultNumber BadNumber = 21
+faultNumber Cut = 22
+faultNumber Unknown = 23
+faultNumber Long = 24
+
+-- "over 65,536 bytes"
+abbrev pub mostBytes : ℕ
+mostBytes = 65_536
+
+-- "below 4,294,967,296"
+abbrev pub numberEnd : ℕ
+numberEnd = 4_294_967_296
+
+-- kind 4: "code (30h, 33h, 35h, 36h, 38h)"
+unfoldable pub inList : ℕ → Condition
+inList code = among code (0x30 ∷ 0x33 ∷ 0x35 ∷ 0x36 ∷ 0x38 ∷ [])
+
+-- "0 code upper lower; 1 dispenser byte; 2 milliseconds; 3 validator byte; 4 code"
+abbrev pub kindOf : Record → ℕ
+kindOf (Request code upper lower) = 0
+kindOf (DispenserByte b) = 1
+kindOf (Tick ms) = 2
+kindOf (ValidatorByte b) = 3
+kindOf (Command code) = 4
+
+abbrev pub numbersOf : Record → List ℕ
+numbersOf (Request code upper lower) = code ∷ upper ∷ lower ∷ []
+numbersOf (DispenserByte b) = b ∷ []
+numbersOf (Tick ms) = ms ∷ []
+numbersOf (ValidatorByte b) = b ∷ []
+numbersOf (Command code) = code ∷ []
+
+-- how many numbers a record of a kind has
+abbrev pub howMany : ℕ → ℕ
+howMany zero = 3
+howMany (suc k) = 1
+
+-- the values that a kind takes: "A code outside its kind's list or a byte above 255 is 23"; milliseconds and counts may be any
+abbrev pub takes : ℕ → List ℕ → Condition
+takes zero ns = known (getD ns 0 0)
+takes (suc zero) ns = atMost (getD ns 0 0) 255
+takes (suc (suc zero)) ns = always
+takes (suc (suc (suc zero))) ns = atMost (getD ns 0 0) 255
+takes (suc (suc (suc (suc zero)))) ns = inList (getD ns 0 0)
+takes (suc (suc (suc (suc (suc k))))) ns = never
+
+-- every number is below 4,294,967,296
+abbrev pub AllBelow : List ℕ → Type 0
+AllBelow [] = Unit {0}
+AllBelow (n ∷ ns) = (n < numberEnd) × AllBelow ns
+
+-- numbers in groups of seven bits, one behind the other
+unfoldable pub laidNumbers : List ℕ → List ℕ
+laidNumbers [] = []
+laidNumbers (n ∷ ns) = groups n ++ laidNumbers ns
+
+-- the bytes of a record
+unfoldable pub recordBytes : Record → List ℕ
+recordBytes x = kindOf x ∷ laidNumbers (numbersOf x)
+
+-- a record that a recording can hold
+abbrev pub InRange : Record → Type 0
+InRange x = AllBelow (numbersOf x) × takes (kindOf x) (numbersOf x) .holds
+
+-- records, one behind the other
+unfoldable pub laid : List Record → List ℕ
+laid [] = []
+laid (x ∷ xs) = recordBytes x ++ laid xs
+
+abbrev pub AllInRange : List Record → Type 0
+AllInRange [] = Unit {0}
+AllInRange (x ∷ xs) = InRange x × AllInRange xs
