@@ -49,30 +49,13 @@ fn named(i: usize) {
 // The recording that can be read from a descriptor.
 fn replay_from(fd: i32, name: &[u8]) {
     let mut store = [0u8; ROOM];
-    let got = read_all(fd, &mut store);
+    let got = files::read_all(fd, &mut store);
     if got < 0 {
         os::fail(name);
         return;
     }
     let n = io::count(got, &store);
     show(&store[..n]);
-}
-
-// Reads until the room is full or the input ends, and answers how many bytes that were, or -1 where a read fails.
-fn read_all(fd: i32, room: &mut [u8]) -> isize {
-    let mut at: usize = 0;
-    while at < room.len() {
-        let got = libc::read(fd, &mut room[at..]);
-        if got < 0 {
-            return -1;
-        }
-        let n = io::count(got, &room[at..]);
-        if n == 0 {
-            return at as isize;
-        }
-        at += n;
-    }
-    at as isize
 }
 
 // The report of a recording, written out.

@@ -1,10 +1,10 @@
--- `replay::read_all` is safe and ends: each read that goes on leaves less room. Assumes nothing.
+-- `files::read_all` is safe and ends: each read that goes on leaves less room. Assumes nothing.
 use mathlib.Core.Path.{_≡_, refl}
 use Prim.Native.Nat.{_-_, _≤_}
 use lib.ListN.{length}
 use borrow.Author.Needs.{needs}
-use Rattle.replay.proofs.read_all.Statement.{statement}
-use Rattle.replay.proofs.read_all.Tie as tie
+use Rattle.files.proofs.read_all.Statement.{statement}
+use Rattle.files.proofs.read_all.Tie as tie
 
 abbrev Inv-loop : tie.InvT-loop
 Inv-loop fd room₀ at₀ room at = (at ≤ length room) × (length room ≡ length room₀)
