@@ -1,14 +1,14 @@
 -- No sum of the account grows by more than 99 when a command closes, and only the notes asked grow when one opens. Assumes nothing.
 use Prim.Native.Nat.{ℕ, _+_, _-_, _≤_, _<_}
-use mathlib.Core.Path.{_≡_, sym, subst}
-use mathlib.Core.Bool.{Bool, true, false, cond}
+use mathlib.Core.Path.{_≡_}
+use mathlib.Core.Bool.{Bool, true, false}
 use mathlib.Core.List.{List}
 use native.Mathlib.Nat.{le-refl}
 use native.Mathlib.Omega.{arith}
 use lib.ListN.{length}
-use Rattle.numbers.specs.Rules.{Condition, atMost}
+use Rattle.numbers.specs.Rules.{atMost}
 use Rattle.numbers.specs.Put.{over}
-use Rattle.numbers.proofs.Rules.{holds-true, fails-false, by-cases, certain, cond-true, cond-false}
+use Rattle.numbers.proofs.Rules.{pick, certain}
 use Rattle.numbers.proofs.Writing.{done-laid}
 use Rattle.dispenser_frame.specs.Layout.{allInRange}
 use Rattle.dispenser_frame.specs.Table.{table, lineIn, line, asks}
@@ -26,17 +26,10 @@ use Rattle.dispenser.specs.declared.account.Sums.{Sums}
 use Rattle.dispenser.specs.declared.account.Account.{Account}
 use Rattle.dispenser.specs.declared.session.Asked.{Asked}
 
--- what holds of both values that a condition's test picks between holds of the one picked
-pub pick : {A : Type 0} (P : A → Type 0) (c : Condition) (x y : A) → (c .holds → P x) → ((c .holds → ⊥) → P y) → P (cond (c .test) x y)
-pick P c x y f g =
-    by-cases c
-    (λ h. subst P (sym (cond-true x y (holds-true c h))) (f h))
-    (λ n. subst P (sym (cond-false x y (fails-false c n))) (g n))
-
 -- a sum grows by no more than what is added
 plus-most : (a : Notes) (n : ℕ) → plus a n .0 ≤ a .0 + n
 unfolding plus
-plus-most a n = pick (λ (x : Notes). x .0 ≤ a .0 + n) (atMost (a .0 + n) 4_294_967_295) (notes (a .0 + n)) a (λ h. le-refl _) (λ h. omega arith)
+plus-most a n = pick (λ (x : Notes). x .0 ≤ a .0 + n) (atMost (a .0 + n) 4_294_967_295) _ _ (λ h. omega arith) (λ h. omega arith)
 
 -- ---- one cassette
 
@@ -105,7 +98,7 @@ module _ {n c d : ℕ} {s : Sums} (b : Bounded n c s) where
         paid-most = omega arith;
         short-most = omega arith;
         over-most = omega arith;
-        refused-most = omega arith;
+        refused-most = omega (arith, plus-most (s .refused) q);
         unknown-most = omega (arith, plus-most (s .unknown) q);
         pending-most = omega arith;
         rejected-most = omega arith;
@@ -180,18 +173,18 @@ module _ {n c d : ℕ} {x : Account} (b : Books n c x) where
     books-answered (Purged e) f h = books-longer (le-refl n) (omega arith)
     books-answered (PaidOne Upper k e o s r) f h =
         record {
-          upper = sums-answered (b .upper) (a .upper) e r (q .upper) (f .1 .0 .1) (f .1 .1 .1 .1 .0 .1) h;
+          upper = sums-answered (b .upper) (a .upper) _ _ (q .upper) (omega (arith, f .0 .1, f .1 .0 .1)) (omega (arith, f .1 .1 .1 .1 .0 .1)) h;
           lower = bounded-longer (b .lower) (le-refl n) (omega arith);
         }
     books-answered (PaidOne Lower k e o s r) f h =
         record {
           upper = bounded-longer (b .upper) (le-refl n) (omega arith);
-          lower = sums-answered (b .lower) (a .lower) e r (q .lower) (f .1 .0 .1) (f .1 .1 .1 .1 .0 .1) h;
+          lower = sums-answered (b .lower) (a .lower) _ _ (q .lower) (omega (arith, f .0 .1, f .1 .0 .1)) (omega (arith, f .1 .1 .1 .1 .0 .1)) h;
         }
     books-answered (PaidBoth uc ux lc lx o us ls ur lr) f h =
         record {
-          upper = sums-answered (b .upper) (a .upper) ux ur (q .upper) (f .1 .0 .1) (f .1 .1 .1 .1 .1 .1 .1 .0 .1) h;
-          lower = sums-answered (b .lower) (a .lower) lx lr (q .lower) (f .1 .1 .1 .0 .1) (f .1 .1 .1 .1 .1 .1 .1 .1 .0 .1) h;
+          upper = sums-answered (b .upper) (a .upper) _ _ (q .upper) (omega (arith, f .0 .1, f .1 .0 .1)) (omega (arith, f .1 .1 .1 .1 .1 .1 .1 .0 .1)) h;
+          lower = sums-answered (b .lower) (a .lower) _ _ (q .lower) (omega (arith, f .1 .1 .0 .1, f .1 .1 .1 .0 .1)) (omega (arith, f .1 .1 .1 .1 .1 .1 .1 .1 .0 .1)) h;
         }
     books-answered (Tested Upper k o s r) f h =
         record { upper = sums-rejected (b .upper) r (f .1 .1 .1 .1 .1 .0 .1) h; lower = bounded-longer (b .lower) (le-refl n) (omega arith) }

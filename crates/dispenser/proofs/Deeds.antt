@@ -4,7 +4,7 @@ use mathlib.Core.Path.{_≡_, refl}
 use mathlib.Core.List.{List, [], _∷_}
 use denote.Enum.Declared.{tagOf}
 use types.Run.{OneOf, miss}
-use Rattle.dispenser.specs.Session.{ByteAfter, acted, byteActed}
+use Rattle.dispenser.specs.Session.{acted, byteActed}
 use Rattle.dispenser.specs.declared.exchange.Line.{Line}
 use Rattle.dispenser.specs.declared.exchange.Todo.{Todo}
 use Rattle.dispenser.proofs.exchange.Todo.{the-type}

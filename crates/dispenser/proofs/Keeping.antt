@@ -1,24 +1,24 @@
 -- Every session that calls lead to from a fresh one is sound, and so none of its sums is ever cut. Assumes nothing.
 use Prim.Native.Nat.{ℕ, _+_, _-_, _≤_, _<_}
 use mathlib.Core.Path.{_≡_, refl, sym, ap, _∙_, subst}
-use mathlib.Core.Bool.{true}
+use mathlib.Core.Bool.{Bool, true}
 use mathlib.Core.List.{List, [], _∷_}
-use mathlib.Core.Logic.{⊎-elim}
 use native.Mathlib.Nat.{le-refl}
 use native.Mathlib.Omega.{arith}
 use lib.Dec.{lit≤, lit<}
 use lib.ListN.{length, set, take, length-set, length-replicate}
-use Rattle.numbers.specs.Rules.{Rule, under, same, judged, NoneOf}
-use Rattle.numbers.proofs.Rules.{certain, holds-true, first-judged, none-judged, first-or-none}
+use Rattle.numbers.specs.Rules.{under, same, judged, NoneOf}
+use Rattle.numbers.proofs.Rules.{pick, either-way, certain, holds-true}
 use Rattle.dispenser_frame.specs.Table.{known, answerFields, answerLength}
 use Rattle.dispenser_frame.specs.Command.{sendable}
 use Rattle.dispenser_frame.specs.Answer.{answerCode, readAnswer}
+use Rattle.dispenser_frame.specs.declared.answer.Answer.{Answer}
 use Rattle.dispenser_frame.specs.declared.answer.AnswerRead.{AnswerRead}
 use Rattle.dispenser_frame.specs.declared.answer.AnswerRead.the-variants.{Read, Refused as NotRead}
 use Rattle.dispenser_frame.proofs.Codes.{length-known}
-use Rattle.dispenser.specs.Limits.{quiet, longQuiet, answerWait, nakWait, frameWait, handOvers, nakLimit, commandLimit}
+use Rattle.dispenser.specs.Limits.{quiet, answerWait, nakWait, frameWait, handOvers, nakLimit, commandLimit}
 use Rattle.dispenser.specs.Exchange.{isOpen, opened, handedAgain, closed, starting, inside, waits, firstByte, badFrame, startByte, gathered, heardIn, heard, expiredIn, expired, passed}
-use Rattle.dispenser.specs.Account.{freshSums, accountOpened, accountRefused, accountUnknown}
+use Rattle.dispenser.specs.Account.{freshSums, accountOpened, accountRefused, accountUnknown, accountAnswered}
 use Rattle.dispenser.specs.Session.{StepAfter, ByteAfter, OpeningAfter, openingAfter, refusedOpening, acted, badStep, judgedStep, judgeStep, byteActed, byteRefusals, tickRefusals, requestRefusals, byteStep, tickStep, requestStep, command, bookedBy, requestBooked, freshSession, sessionRequest, sessionByte, sessionTick}
 use Rattle.dispenser.specs.Calls.{Call, request, byte, tick, called, run, Open, Stands, settled, Bounded, Sound, AlwaysSound, NeverCut}
 use Rattle.dispenser.specs.declared.account.Account.{Account}
@@ -29,9 +29,8 @@ use Rattle.dispenser.specs.declared.exchange.Todo.{Todo}
 use Rattle.dispenser.specs.declared.exchange.Todo.the-variants.{Nothing, Keep, Judge, HandOver, Nak, NakAndLose, Refuse, Lose}
 use Rattle.dispenser.specs.declared.exchange.Turn.{Turn}
 use Rattle.dispenser.specs.declared.session.Asked.{Asked}
-use Rattle.dispenser.specs.declared.session.Declined.{Declined}
 use Rattle.dispenser.specs.declared.session.Session.{Session}
-use Rattle.dispenser.proofs.Bounds.{pick, Modest, sent-modest, answer-fits, Books, books-longer, books-opened, books-refused, books-unknown, books-answered, bounded-longer}
+use Rattle.dispenser.proofs.Bounds.{Modest, sent-modest, answer-fits, Books, books-longer, books-opened, books-refused, books-unknown, books-answered, bounded-longer}
 
 -- ---- the line
 
@@ -88,7 +87,7 @@ module _ (l : Line) (a : Asked) where
   waits-stands : (left : ℕ) (p : Phase) → Stands p l a → Stands p (waits l left) a
   waits-stands left Idle st = tt
   waits-stands left First st = open-on (waits l left) st (st .least) (st .most) (st .naks) refl
-  waits-stands left Start st = open-on (waits l left) st (st .least) (st .most) (st .naks) refl
+  waits-stands left Start st = (open-on (waits l left) (st .0) (st .0 .least) (st .0 .most) (st .0 .naks) refl, st .1)
   waits-stands left Inside st = (open-on (waits l left) (st .0) (st .0 .least) (st .0 .most) (st .0 .naks) refl, st .1, st .2)
 
   goes-on : (left : ℕ) → Stands (l .phase) l a → Still l (waits l left) a
@@ -103,7 +102,7 @@ module _ (l : Line) (a : Asked) (w : Live l a) where
   -- an answer is waited for
   starts : (left naks : ℕ) → naks < nakLimit → Still l (starting l left naks) a
   starts left naks h =
-      record { accepted = refl; count = sym (w .count); stands = open-on l a (starting l left naks) (w .is) (w .is .least) (w .is .most) h refl }
+      record { accepted = refl; count = sym (w .count); stands = (open-on l a (starting l left naks) (w .is) (w .is .least) (w .is .most) h refl, refl) }
 
   -- so many bytes of an answer are gathered
   gathers : (left got : ℕ) → 1 ≤ got → got < a .want → Still l (inside l left got) a
@@ -126,13 +125,13 @@ module _ (l : Line) (a : Asked) (w : Live l a) where
       pick (Turns l a) (same b 0x06) _ _
       (λ h. starts answerWait (l .naks) (w .is .naks))
       (λ n. pick (Turns l a) (same b 0x15) _ _
-      (λ h. pick (Turns l a) (under (l .handed) handOvers) _ _ (λ g. hands (l .handed + 1) (omega arith) (omega arith)) (λ g. closes quiet))
-      (λ m. closes longQuiet))
+      (λ h. pick (Turns l a) (under (l .handed) handOvers) _ _ (λ g. hands (l .handed + 1) (omega arith) (omega arith)) (λ g. closes _))
+      (λ m. closes _))
 
   bad-turns : Turns l a (badFrame l)
   unfolding badFrame
   bad-turns =
-      pick (Turns l a) (under (l .naks) (nakLimit - 1)) _ _ (λ h. starts nakWait (l .naks + 1) (omega arith)) (λ n. closes longQuiet)
+      pick (Turns l a) (under (l .naks) (nakLimit - 1)) _ _ (λ h. starts nakWait (l .naks + 1) (omega arith)) (λ n. closes _)
 
   start-turns : (b : ℕ) → Stands (l .phase) l a → Turns l a (startByte l b)
   unfolding startByte
@@ -153,7 +152,7 @@ module _ (l : Line) (a : Asked) (st : Stands (l .phase) l a) where
   live : (p : Phase) → l .phase ≡ p → isOpen p ≡ true → Live l a
   live Idle e o = let z : _≡_ {A = ℕ} 0 1 = cc in absurd (omega arith)
   live First e o = record { is = subst (λ (p : Phase). Stands p l a) e st; count = ap (λ (p : Phase). settled p (l .accepted)) e }
-  live Start e o = record { is = subst (λ (p : Phase). Stands p l a) e st; count = ap (λ (p : Phase). settled p (l .accepted)) e }
+  live Start e o = record { is = subst (λ (p : Phase). Stands p l a) e st .0; count = ap (λ (p : Phase). settled p (l .accepted)) e }
   live Inside e o = record { is = subst (λ (p : Phase). Stands p l a) e st .0; count = ap (λ (p : Phase). settled p (l .accepted)) e }
 
   -- a byte, and a tick
@@ -173,8 +172,8 @@ module _ (l : Line) (a : Asked) (st : Stands (l .phase) l a) where
     where
       by : (p : Phase) → l .phase ≡ p → Turns l a (expiredIn p l)
       by Idle e = goes-on l a 0 st
-      by First e = closes l a (live First e refl) longQuiet
-      by Start e = closes l a (live Start e refl) longQuiet
+      by First e = closes l a (live First e refl) _
+      by Start e = closes l a (live Start e refl) _
       by Inside e = bad-turns l a (live Inside e refl)
 
   passed-turns : (ms : ℕ) → Turns l a (passed l ms)
@@ -234,13 +233,17 @@ module _ (s : Session) (k : Sound s) (w : Live (s .line) (s .asked)) (r : List �
   unfolding badStep
   bad-sound = acted-sound s k (badFrame (s .line) .line) (s .store) (k .store) (badFrame (s .line) .todo) r (bad-turns (s .line) (s .asked) w)
 
+  answered-sound : (frame : List ℕ) (answer : Answer) (listed : Bool) (need : ℕ) → readAnswer frame ≡ Read answer listed
+      → Sound (record { line = closed (s .line) need; asked = s .asked; account = accountAnswered (s .account) (s .asked) answer; store = s .store })
+  answered-sound frame answer listed need e =
+      let c = closes (s .line) (s .asked) w need in
+      closes-sound s k (closed (s .line) need) (s .store) (k .store) _ c
+      (books-answered (books s k) (s .asked) (c .modest) answer (answer-fits frame answer listed e) (c .count))
+
   judged-sound : (frame : List ℕ) (x : AnswerRead) → readAnswer frame ≡ x → Sound (next s (judgedStep x (s .line) (s .asked) r) (s .store))
   judged-sound frame (Read answer listed) e =
-      let c = closes (s .line) (s .asked) w quiet in
       pick (λ (v : StepAfter). Sound (next s v (s .store))) (same (answerCode answer) (s .asked .code)) _ _
-      (λ h.
-      closes-sound s k (closed (s .line) quiet) (s .store) (k .store) _ c
-      (books-answered (books s k) (s .asked) (c .modest) answer (answer-fits frame answer listed e) (c .count)))
+      (λ h. answered-sound frame answer listed _ e)
       (λ n. bad-sound)
   judged-sound frame (NotRead fault) e = bad-sound
 
@@ -268,15 +271,6 @@ module _ (s : Session) (k : Sound s) (m : Line) (at b : ℕ) (r : List ℕ) wher
   byte-sound Lose d = acted-sound s k m (s .store) (k .store) Lose r d
 
 -- ---- the calls
-
--- what holds of a call refused and of a call done holds of what was judged
-pub either-way : {A : Type 0} (P : A → Type 0) (rules : List (Rule Declined)) (refuse : Declined → A) (done : A)
-    → ((why : Declined) → P (refuse why)) → (NoneOf rules → P done) → P (judged rules refuse done)
-either-way P rules refuse done f g =
-    ⊎-elim
-    (λ h. subst P (sym (first-judged refuse done rules (h .0) (h .1))) (f (h .0)))
-    (λ n. subst P (sym (none-judged refuse done rules n)) (g n))
-    (first-or-none rules)
 
 -- with nothing open every command accepted has been closed
 idle-count : (p : Phase) (n : ℕ) → (isOpen p ≡ true → ⊥) → settled p n ≡ n

@@ -4,4 +4,6 @@ pub mod Bounds
 pub mod Keeping
 pub mod Shown
 pub mod Tracks
+pub mod Demand3
+pub mod Cited
 pub mod Tied

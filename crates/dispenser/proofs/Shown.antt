@@ -1,13 +1,11 @@
 -- What the account books is what the history gives: cassette by cassette, for each way in which a command opens and closes. Assumes nothing.
 use Prim.Native.Nat.{ℕ, _+_, _-_, _≤_}
 use mathlib.Core.Path.{_≡_, refl, sym, ap, _∙_, subst}
-use mathlib.Core.Bool.{Bool, true, false}
+use mathlib.Core.Bool.{Bool, false}
 use mathlib.Core.List.{List, []}
 use mathlib.Core.Logic.{⊎-elim}
 use native.Mathlib.Omega.{arith}
-use lib.ListN.{take, drop}
 use borrow.Author.Tests.{le-leb}
-use Rattle.numbers.specs.Rules.{judged}
 use Rattle.numbers.proofs.Rules.{first-judged, none-judged, first-or-none}
 use Rattle.ledger.specs.Account.{Totals, waiting, answered-by, turned-down, in-doubt, with-share}
 use Rattle.dispenser_frame.specs.Layout.{allInRange, allValues}
@@ -23,7 +21,7 @@ use Rattle.dispenser_frame.specs.declared.answer.AnswerRead.the-variants.{Read,
 use Rattle.dispenser_frame.proofs.Codes.{by-code}
 use Rattle.dispenser.specs.Account.{plus, sumsOpened, sumsAnswered, sumsRefused, sumsUnknown, sumsRejected, accountOpened, accountRefused, accountUnknown, accountAnswered}
 use Rattle.dispenser.specs.Calls.{Bounded}
-use Rattle.dispenser.specs.History.{Request, wanted, two, exitOf, rejectsOf, model2000T, cassette, Shows}
+use Rattle.dispenser.specs.History.{Request, wanted, two, exitOf, rejectsOf, model2000T, cassette, plain}
 use Rattle.dispenser.specs.declared.account.Notes.{Notes}
 use Rattle.dispenser.specs.declared.account.Sums.{Sums}
 use Rattle.dispenser.specs.declared.account.Account.{Account}
@@ -39,6 +37,43 @@ plus-plain : (a : Notes) (n : ℕ) → a .0 + n ≤ 4_294_967_295 → plus a n .
 unfolding plus
 plus-plain a n h = rw (le-leb _ _ h)
 
+-- the sums that the session keeps are these, one by one
+record Shows (s : Sums) (t : Totals) : Type 0 where
+  asked : s .asked .0 ≡ t .asked
+  paid : s .paid .0 ≡ t .paid
+  short : s .short .0 ≡ t .short
+  over : s .over .0 ≡ t .over
+  refused : s .refused .0 ≡ t .refused
+  unknown : s .unknown .0 ≡ t .unknown
+  pending : s .pending .0 ≡ t .pending
+  rejected : s .rejected .0 ≡ t .rejected
+
+together : {s : Sums} {t : Totals} → Shows s t → plain s ≡ t
+together b = λ i.
+    record {
+      asked = b .asked i;
+      paid = b .paid i;
+      short = b .short i;
+      over = b .over i;
+      refused = b .refused i;
+      unknown = b .unknown i;
+      pending = b .pending i;
+      rejected = b .rejected i;
+    }
+
+apart : {s : Sums} {t : Totals} → plain s ≡ t → Shows s t
+apart e =
+    record {
+      asked = ap (λ t. t .asked) e;
+      paid = ap (λ t. t .paid) e;
+      short = ap (λ t. t .short) e;
+      over = ap (λ t. t .over) e;
+      refused = ap (λ t. t .refused) e;
+      unknown = ap (λ t. t .unknown) e;
+      pending = ap (λ t. t .pending) e;
+      rejected = ap (λ t. t .rejected) e;
+    }
+
 -- every sum of a cassette has room for one answer more
 abbrev pub Roomy : Sums → Type 0
 Roomy s = Bounded 1_000_000 1_000_000 s
@@ -46,7 +81,7 @@ Roomy s = Bounded 1_000_000 1_000_000 s
 -- ---- one cassette of one command
 
 module _ (s : Sums) (t : Totals) (q : Request) (c : Cassette) (roomy : Roomy s) where
-  pub shows-opened : Shows s t → t .pending ≡ 0 → wanted q c ≤ 60 → Shows (sumsOpened s (wanted q c)) (with-share model2000T t waiting q c)
+  shows-opened : Shows s t → t .pending ≡ 0 → wanted q c ≤ 60 → Shows (sumsOpened s (wanted q c)) (with-share model2000T t waiting q c)
   unfolding sumsOpened with-share
   shows-opened b z m =
       record {
@@ -61,7 +96,7 @@ module _ (s : Sums) (t : Totals) (q : Request) (c : Cassette) (roomy : Roomy s) 
       }
 
   module _ (b : Shows s (with-share model2000T t waiting q c)) (z : t .pending ≡ 0) where
-    pub shows-refused : wanted q c ≤ 60 → Shows (sumsRefused s (wanted q c)) (with-share model2000T t turned-down q c)
+    shows-refused : wanted q c ≤ 60 → Shows (sumsRefused s (wanted q c)) (with-share model2000T t turned-down q c)
     unfolding sumsRefused with-share
     shows-refused m =
         record {
@@ -75,7 +110,7 @@ module _ (s : Sums) (t : Totals) (q : Request) (c : Cassette) (roomy : Roomy s) 
           rejected = b .rejected;
         }
 
-    pub shows-unknown : wanted q c ≤ 60 → Shows (sumsUnknown s (wanted q c)) (with-share model2000T t in-doubt q c)
+    shows-unknown : wanted q c ≤ 60 → Shows (sumsUnknown s (wanted q c)) (with-share model2000T t in-doubt q c)
     unfolding sumsUnknown with-share
     shows-unknown m =
         record {
@@ -91,7 +126,7 @@ module _ (s : Sums) (t : Totals) (q : Request) (c : Cassette) (roomy : Roomy s) 
 
     -- an answer by the bytes f, which say e and r of this cassette
     module _ (f : List ℕ) where
-      pub shows-answered : (e r : ℕ) → e ≡ exitOf (q .code) f c → r ≡ rejectsOf (q .code) f c → wanted q c ≤ 60 → e ≤ 69 → r ≤ 99
+      shows-answered : (e r : ℕ) → e ≡ exitOf (q .code) f c → r ≡ rejectsOf (q .code) f c → wanted q c ≤ 60 → e ≤ 69 → r ≤ 99
           → Shows (sumsAnswered s (wanted q c) e r) (with-share model2000T t (answered-by f) q c)
       unfolding sumsAnswered with-share
       shows-answered e r x y m g k =
@@ -107,7 +142,7 @@ module _ (s : Sums) (t : Totals) (q : Request) (c : Cassette) (roomy : Roomy s) 
           }
 
       -- nothing was asked of this cassette, and nothing is said of it but rejects
-      pub shows-rejected : (r : ℕ) → exitOf (q .code) f c ≡ 0 → r ≡ rejectsOf (q .code) f c → wanted q c ≡ 0 → r ≤ 99
+      shows-rejected : (r : ℕ) → exitOf (q .code) f c ≡ 0 → r ≡ rejectsOf (q .code) f c → wanted q c ≡ 0 → r ≤ 99
           → Shows (sumsRejected s r) (with-share model2000T t (answered-by f) q c)
       unfolding sumsRejected with-share
       shows-rejected r x y m k =
@@ -122,7 +157,7 @@ module _ (s : Sums) (t : Totals) (q : Request) (c : Cassette) (roomy : Roomy s) 
             rejected = plus-plain (s .rejected) r (omega (arith, roomy .rejected-most)) ∙ rw (b .rejected, y);
           }
 
-      pub shows-left : exitOf (q .code) f c ≡ 0 → rejectsOf (q .code) f c ≡ 0 → wanted q c ≡ 0
+      shows-left : exitOf (q .code) f c ≡ 0 → rejectsOf (q .code) f c ≡ 0 → wanted q c ≡ 0
           → Shows s (with-share model2000T t (answered-by f) q c)
       unfolding with-share
       shows-left x y m =
@@ -193,28 +228,28 @@ module _ (x : Account) (a : Asked) (sent : sendable (a .code) (a .upper) (a .low
   -- one cassette, before the command closes
   pub record Held (t : Totals) (c : Cassette) : Type 0 where
     pub roomy : Roomy (cassette x c)
-    pub shows : Shows (cassette x c) (with-share model2000T t waiting (request-of a) c)
+    pub kept : plain (cassette x c) ≡ with-share model2000T t waiting (request-of a) c
     pub rest : t .pending ≡ 0
 
-  abbrev pub Answered : Totals → Cassette → Answer → List ℕ → Type 0
+  abbrev Answered : Totals → Cassette → Answer → List ℕ → Type 0
   Answered t c answer f = Shows (cassette (accountAnswered x a answer) c) (with-share model2000T t (answered-by f) (request-of a) c)
 
   module _ (t : Totals) (f : List ℕ) where
     paid : (c : Cassette) → Held t c → (code e r : ℕ) → code ≡ a .code → e ≡ exitOf code f c → r ≡ rejectsOf code f c → e ≤ 69 → r ≤ 99
         → Shows (sumsAnswered (cassette x c) (wanted (request-of a) c) e r) (with-share model2000T t (answered-by f) (request-of a) c)
     paid c h code e r k u v m n =
-        shows-answered (cassette x c) t (request-of a) c (h .roomy) (h .shows) (h .rest) f e r (u ∙ exit-by code f c k) (v ∙ rejects-by code f c k)
+        shows-answered (cassette x c) t (request-of a) c (h .roomy) (apart (h .kept)) (h .rest) f e r (u ∙ exit-by code f c k) (v ∙ rejects-by code f c k)
         (wanted-most c) m n
 
     other : (c : Cassette) → Held t c → (code : ℕ) → code ≡ a .code → exitOf code f c ≡ 0 → rejectsOf code f c ≡ 0 → wanted (request-of a) c ≡ 0
         → Shows (cassette x c) (with-share model2000T t (answered-by f) (request-of a) c)
     other c h code k u v w =
-        shows-left (cassette x c) t (request-of a) c (h .roomy) (h .shows) (h .rest) f (sym (exit-by code f c k) ∙ u) (sym (rejects-by code f c k) ∙ v) w
+        shows-left (cassette x c) t (request-of a) c (h .roomy) (apart (h .kept)) (h .rest) f (sym (exit-by code f c k) ∙ u) (sym (rejects-by code f c k) ∙ v) w
 
     tested : (c : Cassette) → Held t c → (code r : ℕ) → code ≡ a .code → exitOf code f c ≡ 0 → r ≡ rejectsOf code f c → wanted (request-of a) c ≡ 0 → r ≤ 99
         → Shows (sumsRejected (cassette x c) r) (with-share model2000T t (answered-by f) (request-of a) c)
     tested c h code r k u v w n =
-        shows-rejected (cassette x c) t (request-of a) c (h .roomy) (h .shows) (h .rest) f r (sym (exit-by code f c k) ∙ u) (v ∙ rejects-by code f c k) w n
+        shows-rejected (cassette x c) t (request-of a) c (h .roomy) (apart (h .kept)) (h .rest) f r (sym (exit-by code f c k) ∙ u) (v ∙ rejects-by code f c k) w n
 
     by-answer : (answer : Answer) (c : Cassette) → Held t c → answerCode answer ≡ a .code → Says answer f → answerFits answer .holds
         → Answered t c answer f
@@ -239,27 +274,27 @@ module _ (x : Account) (a : Asked) (sent : sendable (a .code) (a .upper) (a .low
   -- the three ways to close, and the opening, of the account as a whole
   module _ (t : Totals) (c : Cassette) (h : Held t c) where
     pub account-answered : (f : List ℕ) (answer : Answer) (listed : Bool) → readAnswer f ≡ Read answer listed → answerCode answer ≡ a .code
-        → Answered t c answer f
-    account-answered f answer listed e k = by-answer t f answer c h k (says f answer listed e) (answer-fits f answer listed e)
+        → plain (cassette (accountAnswered x a answer) c) ≡ with-share model2000T t (answered-by f) (request-of a) c
+    account-answered f answer listed e k = together (by-answer t f answer c h k (says f answer listed e) (answer-fits f answer listed e))
 
-    pub account-refused : Shows (cassette (accountRefused x a) c) (with-share model2000T t turned-down (request-of a) c)
+    pub account-refused : plain (cassette (accountRefused x a) c) ≡ with-share model2000T t turned-down (request-of a) c
     unfolding accountRefused
-    account-refused = by c h
+    account-refused = together (by c h)
       where
         by : (c : Cassette) → Held t c → Shows (cassette (accountRefused x a) c) (with-share model2000T t turned-down (request-of a) c)
-        by Upper h = shows-refused (x .upper) t (request-of a) Upper (h .roomy) (h .shows) (h .rest) (wanted-most Upper)
-        by Lower h = shows-refused (x .lower) t (request-of a) Lower (h .roomy) (h .shows) (h .rest) (wanted-most Lower)
+        by Upper h = shows-refused (x .upper) t (request-of a) Upper (h .roomy) (apart (h .kept)) (h .rest) (wanted-most Upper)
+        by Lower h = shows-refused (x .lower) t (request-of a) Lower (h .roomy) (apart (h .kept)) (h .rest) (wanted-most Lower)
 
-    pub account-unknown : Shows (cassette (accountUnknown x a) c) (with-share model2000T t in-doubt (request-of a) c)
+    pub account-unknown : plain (cassette (accountUnknown x a) c) ≡ with-share model2000T t in-doubt (request-of a) c
     unfolding accountUnknown
-    account-unknown = by c h
+    account-unknown = together (by c h)
       where
         by : (c : Cassette) → Held t c → Shows (cassette (accountUnknown x a) c) (with-share model2000T t in-doubt (request-of a) c)
-        by Upper h = shows-unknown (x .upper) t (request-of a) Upper (h .roomy) (h .shows) (h .rest) (wanted-most Upper)
-        by Lower h = shows-unknown (x .lower) t (request-of a) Lower (h .roomy) (h .shows) (h .rest) (wanted-most Lower)
+        by Upper h = shows-unknown (x .upper) t (request-of a) Upper (h .roomy) (apart (h .kept)) (h .rest) (wanted-most Upper)
+        by Lower h = shows-unknown (x .lower) t (request-of a) Lower (h .roomy) (apart (h .kept)) (h .rest) (wanted-most Lower)
 
-  pub account-opened : (t : Totals) (c : Cassette) → Roomy (cassette x c) → Shows (cassette x c) t → t .pending ≡ 0
-      → Shows (cassette (accountOpened x a) c) (with-share model2000T t waiting (request-of a) c)
+  pub account-opened : (t : Totals) (c : Cassette) → Roomy (cassette x c) → plain (cassette x c) ≡ t → t .pending ≡ 0
+      → plain (cassette (accountOpened x a) c) ≡ with-share model2000T t waiting (request-of a) c
   unfolding accountOpened
-  account-opened t Upper r b z = shows-opened (x .upper) t (request-of a) Upper r b z (wanted-most Upper)
-  account-opened t Lower r b z = shows-opened (x .lower) t (request-of a) Lower r b z (wanted-most Lower)
+  account-opened t Upper r b z = together (shows-opened (x .upper) t (request-of a) Upper r (apart b) z (wanted-most Upper))
+  account-opened t Lower r b z = together (shows-opened (x .lower) t (request-of a) Lower r (apart b) z (wanted-most Lower))

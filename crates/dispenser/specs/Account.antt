@@ -18,90 +18,45 @@ notes n = record { 0 = n }
 unfoldable pub plus : Notes → ℕ → Notes
 plus a n = cond (leb (a .0 + n) 4_294_967_295) (notes (a .0 + n)) a
 
+-- the sums of a cassette, in the order of the report: asked, paid, short, over, refused, unknown, open, rejected
+abbrev pub sums : Notes → Notes → Notes → Notes → Notes → Notes → Notes → Notes → Sums
+sums asked paid short over refused unknown pending rejected =
+    record {
+      asked = asked;
+      paid = paid;
+      short = short;
+      over = over;
+      refused = refused;
+      unknown = unknown;
+      pending = pending;
+      rejected = rejected;
+    }
+
 -- "A fresh session has zero sums"
 abbrev pub freshSums : Sums
-freshSums =
-    record {
-      asked = notes 0;
-      paid = notes 0;
-      short = notes 0;
-      over = notes 0;
-      refused = notes 0;
-      unknown = notes 0;
-      pending = notes 0;
-      rejected = notes 0;
-    }
+freshSums = sums (notes 0) (notes 0) (notes 0) (notes 0) (notes 0) (notes 0) (notes 0) (notes 0)
 
 -- "asked q when accepted"; "open q until closed"
 unfoldable pub sumsOpened : Sums → ℕ → Sums
-sumsOpened a q =
-    record {
-      asked = plus (a .asked) q;
-      paid = a .paid;
-      short = a .short;
-      over = a .over;
-      refused = a .refused;
-      unknown = a .unknown;
-      pending = notes q;
-      rejected = a .rejected;
-    }
+sumsOpened a q = sums (plus (a .asked) q) (a .paid) (a .short) (a .over) (a .refused) (a .unknown) (notes q) (a .rejected)
 
 -- "when answered, paid e, short q−e if e is below q, over e−q if e is above" (a difference that would be negative is 0); "Rejects add from
 -- every good paying or test answer"
 unfoldable pub sumsAnswered : Sums → ℕ → ℕ → ℕ → Sums
 sumsAnswered a q e r =
-    record {
-      asked = a .asked;
-      paid = plus (a .paid) e;
-      short = plus (a .short) (q - e);
-      over = plus (a .over) (e - q);
-      refused = a .refused;
-      unknown = a .unknown;
-      pending = notes 0;
-      rejected = plus (a .rejected) r;
-    }
+    sums (a .asked) (plus (a .paid) e) (plus (a .short) (q - e)) (plus (a .over) (e - q)) (a .refused) (a .unknown) (notes 0) (plus (a .rejected) r)
 
 -- "when refused, refused q"
 unfoldable pub sumsRefused : Sums → ℕ → Sums
-sumsRefused a q =
-    record {
-      asked = a .asked;
-      paid = a .paid;
-      short = a .short;
-      over = a .over;
-      refused = plus (a .refused) q;
-      unknown = a .unknown;
-      pending = notes 0;
-      rejected = a .rejected;
-    }
+sumsRefused a q = sums (a .asked) (a .paid) (a .short) (a .over) (plus (a .refused) q) (a .unknown) (notes 0) (a .rejected)
 
 -- "when closed unknown, unknown q"
 unfoldable pub sumsUnknown : Sums → ℕ → Sums
-sumsUnknown a q =
-    record {
-      asked = a .asked;
-      paid = a .paid;
-      short = a .short;
-      over = a .over;
-      refused = a .refused;
-      unknown = plus (a .unknown) q;
-      pending = notes 0;
-      rejected = a .rejected;
-    }
+sumsUnknown a q = sums (a .asked) (a .paid) (a .short) (a .over) (a .refused) (plus (a .unknown) q) (notes 0) (a .rejected)
 
 -- rejects alone, from a test
 unfoldable pub sumsRejected : Sums → ℕ → Sums
-sumsRejected a r =
-    record {
-      asked = a .asked;
-      paid = a .paid;
-      short = a .short;
-      over = a .over;
-      refused = a .refused;
-      unknown = a .unknown;
-      pending = a .pending;
-      rejected = plus (a .rejected) r;
-    }
+sumsRejected a r = sums (a .asked) (a .paid) (a .short) (a .over) (a .refused) (a .unknown) (a .pending) (plus (a .rejected) r)
 
 -- ---- the two cassettes
 

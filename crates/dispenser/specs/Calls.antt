@@ -1,5 +1,5 @@
 -- Any calls at all, from a fresh session, and what every session that they lead to keeps (01, "What the proofs must leave no choice about").
-use Prim.Native.Nat.{ℕ, _+_, _-_, _*_, _≤_, _<_}
+use Prim.Native.Nat.{ℕ, _-_, _*_, _≤_, _<_}
 use mathlib.Core.Path.{_≡_}
 use mathlib.Core.List.{List, [], _∷_}
 use lib.ListN.{length}
@@ -40,11 +40,11 @@ pub record Open (l : Line) (a : Asked) : Type 0 where
   pub naks : l .naks < nakLimit
   pub one : 1 ≤ l .accepted
 
--- where the line stands: inside an answer one byte or more is gathered, and fewer than the answer has
+-- where the line stands: before an answer no byte is gathered; inside one, one or more and fewer than the answer has
 abbrev pub Stands : Phase → Line → Asked → Type 0
 Stands Idle l a = Unit {0}
 Stands First l a = Open l a
-Stands Start l a = Open l a
+Stands Start l a = Open l a × (l .got ≡ 0)
 Stands Inside l a = Open l a × (1 ≤ l .got) × (l .got < a .want)
 
 -- how many commands have been closed

@@ -22,8 +22,8 @@ use Rattle.dispenser.specs.Promises.{Declines}
 use Rattle.dispenser.specs.Calls.{Call, request, byte, tick, called, run}
 use Rattle.dispenser.specs.declared.account.Sums.{Sums}
 use Rattle.dispenser.specs.declared.account.Account.{Account}
-use Rattle.dispenser.specs.declared.session.Declined.{Declined}
-use Rattle.dispenser.specs.declared.session.Declined.the-variants.{Room, Range, Open, Unquiet, Spent}
+use Rattle.ledger.specs.declared.Declined.{Declined}
+use Rattle.ledger.specs.declared.Declined.the-variants.{Room, Range, Open, Unquiet, Spent}
 use Rattle.dispenser.specs.declared.session.Closing.{Closing}
 use Rattle.dispenser.specs.declared.session.Closing.the-variants.{Nothing, Answered, Refused as GaveUp, Unknown}
 use Rattle.dispenser.specs.declared.session.Reply.{Reply}
@@ -105,22 +105,25 @@ abbrev pub cassette : Account → Cassette → Sums
 cassette a Upper = a .upper
 cassette a Lower = a .lower
 
--- the sums that the session keeps are these
-pub record Shows (s : Sums) (t : Totals) : Type 0 where
-  pub asked : s .asked .0 ≡ t .asked
-  pub paid : s .paid .0 ≡ t .paid
-  pub short : s .short .0 ≡ t .short
-  pub over : s .over .0 ≡ t .over
-  pub refused : s .refused .0 ≡ t .refused
-  pub unknown : s .unknown .0 ≡ t .unknown
-  pub pending : s .pending .0 ≡ t .pending
-  pub rejected : s .rejected .0 ≡ t .rejected
+-- the sums that the session keeps, as plain numbers
+abbrev pub plain : Sums → Totals
+plain s =
+    record {
+      asked = s .asked .0;
+      paid = s .paid .0;
+      short = s .short .0;
+      over = s .over .0;
+      refused = s .refused .0;
+      unknown = s .unknown .0;
+      pending = s .pending .0;
+      rejected = s .rejected .0;
+    }
 
 -- "From a fresh session, after any calls at all and for each cassette": the account's sums are those which the history gives; they balance; no
 -- command is handed over more often than the limit; and every call sent what it may: each hand-over after the first comes at 15h, the first
 -- byte accepted since the last, and puts the same bytes
 pub record Demand3 : Type 0 where
-  pub account : (cs : List Call) (c : Cassette) → Shows (cassette (run freshSession cs .account) c) (sums model2000T (history cs) c)
+  pub account : (cs : List Call) (c : Cassette) → plain (cassette (run freshSession cs .account) c) ≡ sums model2000T (history cs) c
   pub balance : (cs : List Call) (c : Cassette) → Balanced (sums model2000T (history cs) c)
   pub few : (cs : List Call) → AtMost handOvers (commands model2000T (history cs))
   pub rightly : (cs : List Call) → Rightly model2000T layout (history cs)

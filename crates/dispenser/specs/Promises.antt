@@ -5,8 +5,7 @@ use mathlib.Core.List.{List}
 use mathlib.Core.Logic.{_↔_}
 use Rattle.numbers.specs.Rules.{First, NoneOf}
 use Rattle.dispenser.specs.Session.{After, byteRefusals, tickRefusals, requestRefusals, sessionRequest, sessionByte, sessionTick}
-use Rattle.dispenser.specs.declared.session.Declined.{Declined}
-use Rattle.dispenser.specs.declared.session.Reply.{Reply}
+use Rattle.ledger.specs.declared.Declined.{Declined}
 use Rattle.dispenser.specs.declared.session.Reply.the-variants.{Refused, Done}
 use Rattle.dispenser.specs.declared.session.Closing.{Closing}
 use Rattle.dispenser.specs.declared.session.Session.{Session}

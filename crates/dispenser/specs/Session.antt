@@ -20,8 +20,8 @@ use Rattle.dispenser.specs.declared.exchange.Phase.{Phase}
 use Rattle.dispenser.specs.declared.exchange.Line.{Line}
 use Rattle.dispenser.specs.declared.exchange.Todo.{Todo}
 use Rattle.dispenser.specs.declared.exchange.Todo.the-variants.{Nothing as Rest, Keep, Judge, HandOver, Nak, NakAndLose, Refuse, Lose}
-use Rattle.dispenser.specs.declared.session.Declined.{Declined}
-use Rattle.dispenser.specs.declared.session.Declined.the-variants.{Room, Range, Open, Unquiet, Spent, Tick}
+use Rattle.ledger.specs.declared.Declined.{Declined}
+use Rattle.ledger.specs.declared.Declined.the-variants.{Room, Range, Open, Unquiet, Spent, Tick}
 use Rattle.dispenser.specs.declared.session.Asked.{Asked}
 use Rattle.dispenser.specs.declared.session.Closing.{Closing}
 use Rattle.dispenser.specs.declared.session.Closing.the-variants.{Nothing, Answered, Refused as GaveUp, Unknown}
@@ -31,15 +31,6 @@ use Rattle.dispenser.specs.declared.session.Step.{Step}
 use Rattle.dispenser.specs.declared.session.Opening.{Opening}
 use Rattle.dispenser.specs.declared.session.Session.{Session}
 use Rattle.dispenser.specs.declared.session.Outcome.{Outcome}
-
--- 01's number for each case
-abbrev pub declinedNumber : Declined → ℕ
-declinedNumber Room = 1
-declinedNumber Range = 2
-declinedNumber Open = 3
-declinedNumber Unquiet = 4
-declinedNumber Spent = 5
-declinedNumber Tick = 6
 
 -- ---- what a call leaves
 

@@ -264,8 +264,8 @@ impl Line {
     pub(crate) fn heard(self, want: usize, b: u8) -> Turn
         ensures { λ r. ⌜ r ≡ heard self want b ⌝ }
     {
-        let p = self.phase;
-        match p {
+        let stand = self.phase;
+        match stand {
             Phase::Idle => {
                 let line = self.waits(self.need);
                 Turn {

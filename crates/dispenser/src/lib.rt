@@ -11,7 +11,6 @@ pub use exchange::Line;
 pub use exchange::Phase;
 pub use session::Asked;
 pub use session::Closing;
-pub use session::Declined;
 pub use session::Opening;
 pub use session::Outcome;
 pub use session::Reply;

@@ -3,7 +3,7 @@ ghost use mathlib.Core.Path.{_≡_};
 ghost use Prim.Native.Nat.{_<_};
 ghost use lib.ListN.{length, set, take};
 ghost use Rattle.dispenser_frame.specs.Answer.{readAnswer};
-ghost use Rattle.dispenser.specs.Session.{declinedNumber, stepped, refusedStep, refusedOpening, stepAfter, byteAfter, openingAfter, after, handed, handOver, acted, badStep, judgeStep, byteStep, tickStep, requestStep, closedBy, bookedBy, requestBooked, freshSession, sessionRequest, sessionByte, sessionTick};
+ghost use Rattle.dispenser.specs.Session.{stepped, refusedStep, refusedOpening, stepAfter, byteAfter, openingAfter, after, handed, handOver, acted, badStep, judgeStep, byteStep, tickStep, requestStep, closedBy, bookedBy, requestBooked, freshSession, sessionRequest, sessionByte, sessionTick};
 use crate::account::Account;
 use crate::exchange::Line;
 use crate::exchange::Todo;
@@ -14,39 +14,8 @@ use dispenser_frame::code_of;
 use dispenser_frame::is_sendable;
 use dispenser_frame::read_answer;
 use dispenser_frame::write_command;
+use ledger::Declined;
 use numbers::Put;
-
-// Why a call is declined.
-pub enum Declined {
-    // The room lent for sending is too small.
-    Room,
-    // The code is not in the table, or a count is outside its range.
-    Range,
-    // A command is open.
-    Open,
-    // The line has not been quiet long enough.
-    Unquiet,
-    // As many commands were accepted as may be.
-    Spent,
-    // A tick is not 1 to 1,000 ms.
-    Tick,
-}
-
-impl Declined {
-    // Document 01's number.
-    pub fn number(self) -> u8
-        ensures { λ r. ⌜ r ≡ declinedNumber self ⌝ }
-    {
-        match self {
-            Declined::Room => 1,
-            Declined::Range => 2,
-            Declined::Open => 3,
-            Declined::Unquiet => 4,
-            Declined::Spent => 5,
-            Declined::Tick => 6,
-        }
-    }
-}
 
 // The command that is open, or was last: its code, the notes asked of each cassette (0 where none are), and the length of its answer.
 pub struct Asked {

@@ -1,14 +1,14 @@
 -- Laws of histories, for every line and any cassettes. Assumes nothing.
-use Prim.Native.Nat.{ℕ, _+_, _-_, _≤_}
-use mathlib.Core.Path.{_≡_, refl, sym, ap, _∙_}
-use mathlib.Core.Bool.{Bool, true, false, cond}
+use Prim.Native.Nat.{ℕ, _+_, _-_}
+use mathlib.Core.Path.{_≡_, refl, _∙_}
+use mathlib.Core.Bool.{true, false}
 use mathlib.Core.List.{List, [], _∷_, _++_}
 use native.Mathlib.Omega.{arith}
-use lib.ListN.{length, drop, length-append}
+use lib.ListN.{length, length-append}
 use lib.Seq.{drop-append-seam}
-use Rattle.ledger.specs.Events.{Deed, asks, hears, waits, Left, goes-on, closes, Event, done, History, isFrame, taken, bytes, since}
-use Rattle.ledger.specs.Line.{stays, upTo, asClosed, isOpen, quietTime, quietNeeded, accepted}
-use Rattle.ledger.specs.Account.{Ending, Dispenser, Fate, waiting, answered-by, turned-down, in-doubt, Command, Totals, Balanced, lastOf, counted, fateAfter, followed, commands, with-share, totals}
+use Rattle.ledger.specs.Events.{Deed, asks, hears, waits, Left, goes-on, closes, done, History, isFrame, taken, bytes, since}
+use Rattle.ledger.specs.Line.{stays, isOpen, quietTime, accepted}
+use Rattle.ledger.specs.Account.{Ending, Dispenser, Fate, waiting, answered-by, turned-down, in-doubt, Command, Balanced, lastOf, counted, fateAfter, followed, commands, with-share, totals}
 
 -- the last bytes of a list that ends in g
 pub last-of : (p g : List ℕ) (n : ℕ) → n ≡ length g → lastOf n (p ++ g) ≡ g

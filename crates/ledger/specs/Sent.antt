@@ -3,8 +3,8 @@ use Prim.Native.Nat.{ℕ, _≤_}
 use mathlib.Core.Path.{_≡_}
 use mathlib.Core.List.{List, [], _∷_}
 use mathlib.Core.Logic.{_⊎_}
-use Rattle.ledger.specs.Events.{Deed, asks, hears, waits, Left, Event, declined, done, History, since}
-use Rattle.ledger.specs.Account.{Ending, Dispenser, Fate, waiting, Command, commands}
+use Rattle.ledger.specs.Events.{Deed, asks, hears, waits, declined, done, History, since}
+use Rattle.ledger.specs.Account.{Ending, Dispenser, waiting, Command, commands}
 
 -- every command of a list was handed over at most n times
 abbrev pub AtMost : {R : Type 0} → ℕ → List (Command R) → Type 0

@@ -29,7 +29,13 @@ use Rattle.numbers.proofs.next_group.Reads as next-group-reads
 use Rattle.numbers.proofs.read_groups.Kinds as read-groups
 use Rattle.numbers.proofs.read_groups.Reads as read-groups-reads
 
--- ps, r and Post are a function's parameters, result and contract; seen is what is looked at: the result x, and the parameters e at exit
+-- ps, r and Post are a function's parameters, result and contract. The contract, for any arguments a, result x and parameters e at exit,
+-- is what is said, as it stands
+module _ {n : ℕ} (ps : List (PK n)) (r : RK n) (Post : Out n ps r) where
+  abbrev pub Is : ((κs : Lfts n) → Dens κs ps → resT r κs .Denot → AtExit (endedOf n ps r) κs → Type 0) → Type 1
+  Is Said = (κs : Lfts n) (a : Dens κs ps) (x : resT r κs .Denot) (e : AtExit (endedOf n ps r) κs) → _≡_ {A = Type 0} (Post κs a x e) (Said κs a x e)
+
+-- seen is what is looked at: the result x, and the parameters e at exit
 module _ {n : ℕ} (ps : List (PK n)) (r : RK n) (Post : Out n ps r) {A : Type 0}
     (seen : (κs : Lfts n) → resT r κs .Denot → AtExit (endedOf n ps r) κs → A) where
   -- two outcomes that the contract allows for the same arguments are seen the same

@@ -1,45 +1,44 @@
 -- After any calls at all the session agrees with the history: its bills, its store, and the numbers 3, 4 and 5. Assumes nothing.
 use Prim.Native.Nat.{ℕ, _+_, _-_, _≤_, _<_}
 use mathlib.Core.Path.{_≡_, refl, sym, ap, ap₂, _∙_, subst}
-use mathlib.Core.Bool.{Bool, true, false, cond}
+use mathlib.Core.Bool.{true, false, cond}
 use mathlib.Core.List.{List, [], _∷_, _++_}
-use mathlib.Core.Logic.{_⊎_, inl, inr, ⊎-elim, _↔_}
 use native.Mathlib.Omega.{arith}
 use lib.Dec.{eqb, lit≤}
-use lib.ListN.{length, getD, set, take, replicate, length-append, length-replicate, getD-replicate}
-use lib.Seq.{take-at}
+use lib.ListN.{length, getD, set, take, replicate, length-append, length-replicate, getD-replicate, List·getD-append}
+use lib.Seq.{take-at, getD-at}
 use borrow.Author.Tests.{lt-ltb}
-use Rattle.numbers.specs.Rules.{Rule, under, same, judged, First, NoneOf}
+use Rattle.numbers.specs.Rules.{under, same}
+use Rattle.numbers.specs.Promises.{Bytes}
 use Rattle.numbers.specs.Put.{over}
-use Rattle.numbers.proofs.Rules.{certain, holds-true, fails-false, cond-true, cond-false, first-judged, none-judged, first-or-none}
+use Rattle.numbers.proofs.Rules.{holds-true, fails-false, by-cases, cond-true, cond-false, pick, either-way, Alike, alike-back, first-alike, none-alike}
 use Rattle.numbers.proofs.Writing.{take-over}
-use Rattle.ccnet_frame.specs.Frame.{frame, judgeFrame, bodyOf}
-use Rattle.ccnet_frame.specs.Class.{classOf}
+use Rattle.ccnet_frame.specs.Frame.{closed as with-check, frame, judgeFrame, bodyOf}
+use Rattle.ccnet_frame.specs.Class.{classOf, classBytes}
 use Rattle.ccnet_frame.specs.declared.frame.Judged.{Judged}
 use Rattle.ccnet_frame.specs.declared.frame.Judged.the-variants.{Good as Passed, Refused as Failed}
 use Rattle.ccnet_frame.specs.declared.class.Class.{Class}
 use Rattle.ccnet_frame.specs.declared.class.Class.the-variants.{Ack, Nak, Illegal, State, Busy, Rejecting, Failing, Escrow, Stacked, Returned, Unknown}
-use Rattle.ccnet_frame.proofs.Frames.{frame-length}
-use Rattle.ledger.specs.Events.{Deed, asks, hears, waits, Left, goes-on, closes, Event, declined, done, isFrame, since}
+use Rattle.ccnet_frame.proofs.Frames.{frame-length, good-frame}
+use Rattle.ccnet_frame.proofs.Classes.{classes}
+use Rattle.ledger.specs.Events.{Deed, asks, hears, waits, goes-on, closes, Event, declined, done, isFrame, since}
 use Rattle.ledger.specs.Line.{isOpen, quietTime, accepted}
 use Rattle.validator.specs.Limits.{quiet, frameWait, storeSize, commandLimit, types}
 use Rattle.validator.specs.Line.{isOpen as openIn, opened, closed, remembers, inside, waits as still, startByte, addressByte, lengthByte, furtherByte, gathered, heardIn, heard, expiredIn, expired, passed}
-use Rattle.validator.specs.Bills.{bills, bookedBy, poll, credited, remembered}
-use Rattle.validator.specs.Session.{LentAfter, StepAfter, stepAfter, refusedStep, lentAfter, afterStep, zeros, damagedStep, closedStep, answeredStep, classStep, foundIn, found, judgedStep, judgeStep, acted, byteActed, byteRefusals, tickRefusals, requestRefusals, byteStep, tickStep, requestStep, freshSession, sessionRequest, sessionByte, sessionTick}
-use Rattle.validator.specs.History.{Request, Ending, acknowledged, refused, illegal, answered, damaged, silent, Past, lastCode, fromStart, between, bodyBy, pollBody, reported, counted, gathered as so-far}
-use Rattle.validator.specs.Calls.{Call, request, byte, tick, called, deed, eventOf, event, reached, past, BillsTold, BillsFew, StoreTold, historyRefusals, NumbersTold}
+use Rattle.validator.specs.Bills.{bills, bookedBy, poll, remembered}
+use Rattle.validator.specs.Session.{LentAfter, StepAfter, stepAfter, refusedStep, lentAfter, afterStep, zeros, damagedStep, answeredStep, classStep, foundIn, found, judgedStep, judgeStep, acted, byteActed, byteRefusals, tickRefusals, requestRefusals, byteStep, tickStep, requestStep, freshSession, sessionRequest, sessionByte, sessionTick}
+use Rattle.validator.specs.History.{Request, Ending, acknowledged, refused, illegal, answered, damaged, silent, Past, lastCode, fromStart, between, pollBody, reported, counted, gathered as so-far, told, seen, historyFrom, history, Truly, KeptByHistory, historyRefusals, DeclinesByHistory}
+use Rattle.validator.specs.Calls.{Call, request, byte, tick, called, run}
 use Rattle.validator.specs.declared.bills.Bills.{Bills}
 use Rattle.validator.specs.declared.line.Phase.{Phase}
 use Rattle.validator.specs.declared.line.Phase.the-variants.{Idle, Start, Inside}
 use Rattle.validator.specs.declared.line.Line.{Line}
-use Rattle.validator.specs.declared.line.Todo.{Todo}
-use Rattle.validator.specs.declared.line.Todo.the-variants.{Nothing, Keep, Judge, Damage, Silence}
+use Rattle.validator.specs.declared.line.Todo.the-variants.{Nothing, Keep, Silence}
 use Rattle.validator.specs.declared.line.Turn.{Turn}
-use Rattle.validator.specs.declared.session.Declined.{Declined}
 use Rattle.validator.specs.declared.session.Session.{Session}
-use Rattle.validator.proofs.Past.{start-next, start-more, store-more, nothing-counted, counted-most}
+use Rattle.validator.proofs.Past.{start-next, start-more, store-more, bytes-more, nothing-counted, counted-most}
 use Rattle.validator.proofs.Exact.{exactly-when}
-use Rattle.validator.proofs.Booking.{pick, Base, Fewer, answered-base, same-base}
+use Rattle.validator.proofs.Booking.{Base, Fewer, answered-base, same-base}
 
 -- ---- where the line stands
 
@@ -67,6 +66,8 @@ record Gathering (l : Line) (store : List ℕ) (h : Past) : Type 0 where
   less : l .got < l .want
   most : l .want ≤ storeSize
   untold : l .got ≤ 2 → l .want ≡ storeSize
+  named : 2 ≤ l .got → getD (fromStart (since h)) 1 0 ≡ 0x03
+  bytes : Bytes (fromStart (since h))
   bound : Fewer h
 
 abbrev Stands : Phase → Line → List ℕ → Past → Type 0
@@ -77,6 +78,7 @@ Stands Inside l store h = Gathering l store h
 record Agrees (s : Session) (h : Past) : Type 0 where
   base : Base (s .line) (s .bills) h
   stands : Stands (s .line .phase) (s .line) (s .store) h
+  truly : Truly h
 
 -- ---- a call that goes on, and one that closes
 
@@ -114,18 +116,24 @@ module _ (l : Line) (bs : List Bills) (h : Past) (base : Base l bs h) (fewer : F
         bound = λ y small. omega (arith, counted-most y e h, fewer y small, ends .as-many);
       }
 
-  closes-agrees : pollBody e h ≡ [] → Agrees (record { line = closed l; bills = bs; store = zeros }) (e ∷ h)
-  closes-agrees none =
+  closes-agrees : pollBody e h ≡ [] → Truly (e ∷ h) → Agrees (record { line = closed l; bills = bs; store = zeros }) (e ∷ h)
+  closes-agrees none truly =
       record {
         base = same-base l (closed l) bs h base refl refl refl e none (ends .as-many) (ends .as-coded);
         stands = rests (closed l) refl;
+        truly = truly;
       }
+
+-- the address stands behind 02h
+second : (a : ℕ) (body : List ℕ) → getD (frame a body) 1 0 ≡ a
+unfolding frame with-check
+second a body = refl
 
 -- ---- what is left by a step
 
 -- the session agrees after a step that answers a byte or a tick
 abbrev Next : Session → Past → Deed Request → LentAfter → Type 0
-Next s h d w = Agrees (afterStep s w .session) (eventOf d (w .step .reply) (w .room) ∷ h)
+Next s h d w = Agrees (afterStep s w .session) (told d (w .step .reply) (w .room) ∷ h)
 
 module _ (s : Session) (h : Past) (k : Agrees s h) where
   abbrev l : Line
@@ -141,23 +149,24 @@ module _ (s : Session) (h : Past) (k : Agrees s h) where
 
   module _ (fewer : Fewer h) (r : List ℕ) where
     heard-damaged : (b : ℕ) → Next s h (hears b) (damagedStep (closed l) r)
-    unfolding damagedStep bookedBy
-    heard-damaged b = closes-agrees l (s .bills) h (k .base) fewer _ (heard-ends h b _ damaged) refl
+    unfolding damagedStep bookedBy Truly
+    heard-damaged b = closes-agrees l (s .bills) h (k .base) fewer _ (heard-ends h b _ damaged) refl (tt, k .truly)
 
     waited-damaged : (ms : ℕ) → Next s h (waits ms) (damagedStep (closed l) r)
-    unfolding damagedStep bookedBy
-    waited-damaged ms = closes-agrees l (s .bills) h (k .base) fewer _ (waited-ends h ms _ damaged) refl
+    unfolding damagedStep bookedBy Truly
+    waited-damaged ms = closes-agrees l (s .bills) h (k .base) fewer _ (waited-ends h ms _ damaged) refl (k .truly)
 
     waited-silent : (ms : ℕ) → Next s h (waits ms) (acted Silence (closed l) (s .store) r)
-    unfolding bookedBy
-    waited-silent ms = closes-agrees l (s .bills) h (k .base) fewer _ (waited-ends h ms _ silent) refl
+    unfolding bookedBy Truly
+    waited-silent ms = closes-agrees l (s .bills) h (k .base) fewer _ (waited-ends h ms _ silent) refl (k .truly)
 
-    -- an answer that ends with b; its body is what stands between
-    module _ (b : ℕ) (body : List ℕ) (is : body ≡ between (fromStart (since h ++ (b ∷ [])))) where
+    -- an answer that ends with b: a frame, and its body is what stands between
+    module _ (b : ℕ) (body : List ℕ) (is : body ≡ between (fromStart (since h ++ (b ∷ []))))
+        (good : fromStart (since h ++ (b ∷ [])) ≡ frame 0x03 body) where
       heard-answered : Next s h (hears b) (answeredStep (closed l) (classOf body) r)
-      unfolding answeredStep
+      unfolding answeredStep Truly
       heard-answered =
-          let e = eventOf (hears b) (answeredStep (closed l) (classOf body) r .step .reply) (answeredStep (closed l) (classOf body) r .room) in
+          let e = told (hears b) (answeredStep (closed l) (classOf body) r .step .reply) (answeredStep (closed l) (classOf body) r .room) in
           let ends = heard-ends h b _ answered in
           let m = remembers (closed l) (remembered (l .code) (l .last) (classOf body)) in
           record {
@@ -166,13 +175,22 @@ module _ (s : Session) (h : Past) (k : Agrees s h) where
                 (ap₂ (λ (c : ℕ) (x : List ℕ). cond (eqb c poll) x []) (sym (k .base .code-is)) (sym is))
                 m refl refl refl (ends .as-many) (ends .as-coded);
             stands = rests l (s .bills) h (k .base) fewer e ends m refl;
+            truly = (good ∙ ap (frame 0x03) is, k .truly);
           }
 
+      -- a body of a class other than unknown is the bytes of that class
+      heard-says : (c : Class) → c ≡ classOf body → (c ≡ Unknown → ⊥) → fromStart (since h ++ (b ∷ [])) ≡ frame 0x03 (classBytes c)
+      heard-says c e n =
+          good ∙ ap (frame 0x03) (sym (classes .again body (λ u. n (e ∙ u)) .1) ∙ ap classBytes (sym e))
+
       heard-class : (c : Class) → c ≡ classOf body → Next s h (hears b) (classStep c (closed l) r)
-      unfolding bookedBy
-      heard-class Ack e = closes-agrees l (s .bills) h (k .base) fewer _ (heard-ends h b _ acknowledged) refl
-      heard-class Nak e = closes-agrees l (s .bills) h (k .base) fewer _ (heard-ends h b _ refused) refl
-      heard-class Illegal e = closes-agrees l (s .bills) h (k .base) fewer _ (heard-ends h b _ illegal) refl
+      unfolding bookedBy Truly
+      heard-class Ack e =
+          closes-agrees l (s .bills) h (k .base) fewer _ (heard-ends h b _ acknowledged) refl (heard-says Ack e (λ u. let z : _≡_ {A = ℕ} 0 1 = cc in omega arith), k .truly)
+      heard-class Nak e =
+          closes-agrees l (s .bills) h (k .base) fewer _ (heard-ends h b _ refused) refl (heard-says Nak e (λ u. let z : _≡_ {A = ℕ} 0 1 = cc in omega arith), k .truly)
+      heard-class Illegal e =
+          closes-agrees l (s .bills) h (k .base) fewer _ (heard-ends h b _ illegal) refl (heard-says Illegal e (λ u. let z : _≡_ {A = ℕ} 0 1 = cc in omega arith), k .truly)
       heard-class (State x) e = subst (λ (c : Class). Next s h (hears b) (answeredStep (closed l) c r)) (sym e) heard-answered
       heard-class (Busy x) e = subst (λ (c : Class). Next s h (hears b) (answeredStep (closed l) c r)) (sym e) heard-answered
       heard-class (Rejecting x) e = subst (λ (c : Class). Next s h (hears b) (answeredStep (closed l) c r)) (sym e) heard-answered
@@ -183,17 +201,22 @@ module _ (s : Session) (h : Past) (k : Agrees s h) where
       heard-class Unknown e = subst (λ (c : Class). Next s h (hears b) (answeredStep (closed l) c r)) (sym e) heard-answered
 
     -- a full frame, good or bad
-    heard-full : (b : ℕ) (f : List ℕ) → f ≡ fromStart (since h ++ (b ∷ [])) → Next s h (hears b) (judgedStep (found f) (closed l) r)
+    heard-full : (b : ℕ) (f : List ℕ) → f ≡ fromStart (since h ++ (b ∷ [])) → getD f 1 0 ≡ 0x03 → Bytes f
+        → Next s h (hears b) (judgedStep (found f) (closed l) r)
     unfolding found between
-    heard-full b f is = by (judgeFrame f) refl
+    heard-full b f is named bytes = by (judgeFrame f) refl
       where
         by : (j : Judged) → judgeFrame f ≡ j → Next s h (hears b) (judgedStep (foundIn j f) (closed l) r)
-        by (Passed a) e = heard-class b (bodyOf f) (rw e (ap between is)) (classOf (bodyOf f)) refl
+        by (Passed a) e =
+            let good = good-frame f a e bytes in
+            let three : a ≡ 0x03 = sym (second a (bodyOf f)) ∙ ap (λ (x : List ℕ). getD x 1 0) good ∙ named in
+            heard-class b (bodyOf f) (rw e (ap between is)) (sym is ∙ sym good ∙ ap (λ (n : ℕ). frame n (bodyOf f)) three)
+            (classOf (bodyOf f)) refl
         by (Failed fault) e = heard-damaged b
 
   -- ---- a byte that closes nothing
 
-  module _ (b : ℕ) where
+  module _ (b : ℕ) (small : b < 256) where
     -- the call, as a caller knows it
     abbrev came : Event Request Ending
     came = done (hears b) [] goes-on
@@ -209,6 +232,10 @@ module _ (s : Session) (h : Past) (k : Agrees s h) where
     came-fewer : Fewer h → Fewer (came ∷ h)
     unfolding accepted
     came-fewer f = fewer-still came h refl refl f
+
+    came-truly : Truly (came ∷ h)
+    unfolding Truly
+    came-truly = (tt, k .truly)
 
     came-since : since (came ∷ h) ≡ since h ++ (b ∷ [])
     unfolding since isFrame
@@ -248,6 +275,8 @@ module _ (s : Session) (h : Past) (k : Agrees s h) where
           less = lit≤ tt;
           most = lit≤ tt;
           untold = λ u. refl;
+          named = λ u. absurd (omega arith);
+          bytes = subst Bytes (sym f) (bytes-more [] b (λ i. lit≤ tt) small);
           bound = came-fewer (st .bound);
         }
 
@@ -266,10 +295,20 @@ module _ (s : Session) (h : Past) (k : Agrees s h) where
           ap₂ (λ (x : List ℕ) (n : ℕ). set x n b) (st .filled) (sym (st .size))
           ∙ store-more before b (storeSize - l .got) (omega (arith, st .less, st .most))
 
+      came-bytes : Bytes (before ++ (b ∷ []))
+      came-bytes = bytes-more before b (st .bytes) small
+
+      -- the second byte is the address
+      came-named : (l .got ≡ 1 → b ≡ 0x03) → 1 ≤ l .got → getD (before ++ (b ∷ [])) 1 0 ≡ 0x03
+      came-named address h =
+          by-cases (same (l .got) 1)
+          (λ g. getD-at before b [] 0 1 (st .size ∙ g) ∙ address g)
+          (λ n. List·getD-append before (b ∷ []) 0 1 (omega (arith, n, st .size)) ∙ st .named (omega (arith, n)))
+
       -- one byte more of an answer
-      came-kept : (n want : ℕ) → n ≡ l .got + 1 → n < want → want ≤ storeSize → (n ≤ 2 → want ≡ storeSize)
+      came-kept : (n want : ℕ) → n ≡ l .got + 1 → n < want → want ≤ storeSize → (n ≤ 2 → want ≡ storeSize) → (n ≡ 2 → b ≡ 0x03)
           → Gathering (inside l (l .left) n want) (set (s .store) (l .got) b) (came ∷ h)
-      came-kept n want e less most untold =
+      came-kept n want e less most untold address =
           let f : fromStart (since (came ∷ h)) ≡ before ++ (b ∷ []) = ap fromStart came-since ∙ came-from in
           let m : storeSize - l .got - 1 ≡ storeSize - n = omega arith in
           record {
@@ -280,6 +319,8 @@ module _ (s : Session) (h : Past) (k : Agrees s h) where
             less = less;
             most = most;
             untold = untold;
+            named = λ u. ap (λ (x : List ℕ). getD x 1 0) f ∙ came-named (λ g. address (omega arith)) (omega arith);
+            bytes = subst Bytes (sym f) came-bytes;
             bound = came-fewer (st .bound);
           }
 
@@ -292,7 +333,7 @@ module _ (s : Session) (h : Past) (k : Agrees s h) where
 
     -- ---- a byte, by where the line stands
 
-    module _ (small : b < 256) (r : List ℕ) where
+    module _ (r : List ℕ) where
       -- what a turn of the line leads to
       abbrev After : Turn → Type 0
       After t = Next s h (hears b) (byteActed (t .todo) (t .line) (l .want) (s .store) (l .got) b r)
@@ -303,31 +344,37 @@ module _ (s : Session) (h : Past) (k : Agrees s h) where
           record {
             base = came-base (still l quiet) refl refl refl;
             stands = subst (λ (q : Phase). Stands q (still l quiet) (s .store) (came ∷ h)) (sym p) (came-resting st);
+            truly = came-truly;
           }
 
       after-start : l .phase ≡ Start → Awaiting l (s .store) h → After (startByte l b)
       unfolding startByte bookedBy
       after-start p st =
           pick After (same b 0x02) _ _
-          (λ e. record { base = came-base (inside l frameWait 1 storeSize) refl refl refl; stands = came-started st e })
+          (λ e. record { base = came-base (inside l frameWait 1 storeSize) refl refl refl; stands = came-started st e; truly = came-truly })
           (λ n.
           record {
             base = came-base (still l (l .left)) refl refl refl;
             stands = subst (λ (q : Phase). Stands q (still l (l .left)) (s .store) (came ∷ h)) (sym p) (came-skipped st n);
+            truly = came-truly;
           })
 
       module _ (st : Gathering l (s .store) h) where
-        kept : (n want : ℕ) → n ≡ l .got + 1 → n < want → want ≤ storeSize → (n ≤ 2 → want ≡ storeSize)
+        kept : (n want : ℕ) → n ≡ l .got + 1 → n < want → want ≤ storeSize → (n ≤ 2 → want ≡ storeSize) → (n ≡ 2 → b ≡ 0x03)
             → Next s h (hears b) (byteActed Keep (inside l (l .left) n want) (l .want) (s .store) (l .got) b r)
         unfolding bookedBy
-        kept n want e less most untold =
-            record { base = came-base (inside l (l .left) n want) refl refl refl; stands = came-kept st n want e less most untold }
+        kept n want e less most untold address =
+            record {
+              base = came-base (inside l (l .left) n want) refl refl refl;
+              stands = came-kept st n want e less most untold address;
+              truly = came-truly;
+            }
 
         after-address : l .got ≡ 1 → After (addressByte l b)
         unfolding addressByte
         after-address g =
             pick After (same b 0x03) _ _
-            (λ e. kept 2 (l .want) (omega arith) (omega (arith, st .untold (omega arith))) (st .most) (λ u. st .untold (omega arith)))
+            (λ e. kept 2 (l .want) (omega arith) (omega (arith, st .untold (omega arith))) (st .most) (λ u. st .untold (omega arith)) (λ u. e))
             (λ n. heard-damaged (st .bound) r b)
 
         after-length : l .got ≡ 2 → After (lengthByte l b)
@@ -335,7 +382,7 @@ module _ (s : Session) (h : Past) (k : Agrees s h) where
         after-length g =
             pick After (under b 6) _ _
             (λ e. heard-damaged (st .bound) r b)
-            (λ n. kept 3 b (omega arith) (omega (arith, least n)) (omega arith) (λ u. absurd (omega arith)))
+            (λ n. kept 3 b (omega arith) (omega (arith, least n)) (omega arith) (λ u. absurd (omega arith)) (λ u. absurd (omega arith)))
           where
             least : (b < 6 → ⊥) → 6 ≤ b
             least n = omega arith
@@ -344,8 +391,13 @@ module _ (s : Session) (h : Past) (k : Agrees s h) where
         unfolding furtherByte judgeStep
         after-further g f =
             pick After (under (l .got + 1) (l .want)) _ _
-            (λ e. kept (l .got + 1) (l .want) refl e (st .most) (λ u. absurd (omega (arith, st .least, g, f))))
-            (λ n. heard-full (st .bound) r b (take (l .want) (set (s .store) (l .got) b)) (came-full st (omega (arith, st .less, n))))
+            (λ e. kept (l .got + 1) (l .want) refl e (st .most) (λ u. absurd (omega (arith, st .least, g, f))) (λ u. absurd (omega (arith, g))))
+            (λ n.
+            let whole = came-full st (omega (arith, st .less, n)) in
+            let is = whole ∙ came-from st in
+            heard-full (st .bound) r b (take (l .want) (set (s .store) (l .got) b)) whole
+            (ap (λ (x : List ℕ). getD x 1 0) is ∙ came-named st (λ q. absurd (g q)) (st .least))
+            (subst Bytes (sym is) (came-bytes st)))
 
         after-inside : After (gathered l b)
         unfolding gathered
@@ -380,6 +432,10 @@ module _ (s : Session) (h : Past) (k : Agrees s h) where
         append-nil [] = refl
         append-nil (a ∷ x) = ap (λ (y : List ℕ). a ∷ y) (append-nil x)
 
+    went-truly : Truly (went ∷ h)
+    unfolding Truly
+    went-truly = k .truly
+
     went-open : isOpen (went ∷ h) ≡ isOpen h
     unfolding isOpen
     went-open = refl
@@ -410,6 +466,8 @@ module _ (s : Session) (h : Past) (k : Agrees s h) where
           less = st .less;
           most = st .most;
           untold = st .untold;
+          named = λ u. ap (λ (x : List ℕ). getD (fromStart x) 1 0) went-since ∙ st .named u;
+          bytes = subst (λ (x : List ℕ). Bytes (fromStart x)) (sym went-since) (st .bytes);
           bound = went-fewer (st .bound);
         }
 
@@ -419,7 +477,12 @@ module _ (s : Session) (h : Past) (k : Agrees s h) where
 
       goes : (left : ℕ) → left ≡ l .left - ms → Next s h (waits ms) (acted Nothing (still l left) (s .store) r)
       unfolding bookedBy
-      goes left e = record { base = went-base (still l left) refl refl refl; stands = went-stands left e (l .phase) (k .stands) }
+      goes left e =
+          record {
+            base = went-base (still l left) refl refl refl;
+            stands = went-stands left e (l .phase) (k .stands);
+            truly = went-truly;
+          }
 
       after-expired : l .left ≤ ms → Passed-by (expired l)
       unfolding expired
@@ -456,7 +519,7 @@ module _ (s : Session) (h : Past) (k : Agrees s h) where
 
     wrote-agrees : Resting l (s .store) h → l .accepted < commandLimit
         → Agrees (record { line = opened l code (l .accepted + 1); bills = s .bills; store = s .store }) (wrote ∷ h)
-    unfolding isOpen accepted lastCode reported counted classOf fromStart
+    unfolding isOpen accepted lastCode reported counted classOf fromStart Truly
     wrote-agrees st f =
         record {
           base =
@@ -476,18 +539,10 @@ module _ (s : Session) (h : Past) (k : Agrees s h) where
                 nothing = refl;
                 bound = λ y small. omega (arith, st .bound y small);
               };
+          truly = k .truly;
         }
 
 -- ---- the calls
-
--- what holds of a call refused and of a call done holds of what was judged
-either-way : {A : Type 0} (P : A → Type 0) (rules : List (Rule Declined)) (refuse : Declined → A) (made : A)
-    → ((why : Declined) → P (refuse why)) → (NoneOf rules → P made) → P (judged rules refuse made)
-either-way P rules refuse made f g =
-    ⊎-elim
-    (λ h. subst P (sym (first-judged refuse made rules (h .0) (h .1))) (f (h .0)))
-    (λ n. subst P (sym (none-judged refuse made rules n)) (g n))
-    (first-or-none rules)
 
 module _ (s : Session) (h : Past) (k : Agrees s h) where
   -- a call that was declined
@@ -505,11 +560,13 @@ module _ (s : Session) (h : Past) (k : Agrees s h) where
         less = st .less;
         most = st .most;
         untold = st .untold;
+        named = st .named;
+        bytes = st .bytes;
         bound = st .bound;
       }
 
   declined-agrees : Agrees s (declined ∷ h)
-  unfolding accepted lastCode reported counted classOf
+  unfolding accepted lastCode reported counted classOf Truly
   declined-agrees =
       record {
         base =
@@ -522,42 +579,43 @@ module _ (s : Session) (h : Past) (k : Agrees s h) where
               counts = k .base .counts;
             };
         stands = declined-stands (s .line .phase) (k .stands);
+        truly = k .truly;
       }
 
   request-agrees : (code : ℕ) (given r : List ℕ)
-      → Agrees (sessionRequest s code given r .session) (event (request code given r) (sessionRequest s code given r) ∷ h)
+      → Agrees (sessionRequest s code given r .session) (seen s (request code given r) ∷ h)
   unfolding sessionRequest requestStep requestRefusals
   request-agrees code given r =
       either-way
       (λ (w : StepAfter).
       Agrees (record { line = w .step .line; bills = s .bills; store = s .store })
-      (eventOf (asks (record { code = code; given = given })) (w .step .reply) (w .room) ∷ h))
+      (told (asks (record { code = code; given = given })) (w .step .reply) (w .room) ∷ h))
       (requestRefusals (s .line) code given r) (λ why. stepAfter (refusedStep (s .line) why) r) _
       (λ why. declined-agrees)
       (λ n.
       wrote-agrees s h k code given r (resting s h k code given r (s .line .phase) (n .1 .1 .0) (k .stands)) (omega (arith, n .1 .1 .1 .1 .0)))
 
-  byte-agrees : (b : ℕ) → b < 256 → (r : List ℕ) → Agrees (sessionByte s b r .session) (eventOf (hears b) (sessionByte s b r .reply) (sessionByte s b r .room) ∷ h)
+  byte-agrees : (b : ℕ) (small : b < 256) (r : List ℕ) → Agrees (sessionByte s b r .session) (seen s (byte b small r) ∷ h)
   unfolding sessionByte byteStep bookedBy
   byte-agrees b small r =
       either-way (Next s h (hears b)) (byteRefusals r) (λ why. lentAfter (refusedStep (s .line) why) (s .store) r) _
       (λ why. declined-agrees)
       (λ n. after-heard s h k b small r)
 
-  tick-agrees : (ms : ℕ) (r : List ℕ) → Agrees (sessionTick s ms r .session) (event (tick ms r) (sessionTick s ms r) ∷ h)
+  tick-agrees : (ms : ℕ) (r : List ℕ) → Agrees (sessionTick s ms r .session) (seen s (tick ms r) ∷ h)
   unfolding sessionTick tickStep bookedBy
   tick-agrees ms r =
       either-way (Next s h (waits ms)) (tickRefusals ms r) (λ why. lentAfter (refusedStep (s .line) why) (s .store) r) _
       (λ why. declined-agrees)
       (λ n. after-passed s h k ms r)
 
-called-agrees : (s : Session) (h : Past) (c : Call) → Agrees s h → Agrees (called s c .session) (event c (called s c) ∷ h)
+called-agrees : (s : Session) (h : Past) (c : Call) → Agrees s h → Agrees (called s c .session) (seen s c ∷ h)
 called-agrees s h (request code given r) k = request-agrees s h k code given r
 called-agrees s h (byte b small r) k = byte-agrees s h k b small r
 called-agrees s h (tick ms r) k = tick-agrees s h k ms r
 
 fresh-agrees : Agrees freshSession []
-unfolding freshSession isOpen quietTime accepted lastCode reported counted classOf
+unfolding freshSession isOpen quietTime accepted lastCode reported counted classOf Truly
 fresh-agrees =
     record {
       base =
@@ -570,29 +628,25 @@ fresh-agrees =
             counts = λ y small. ap (λ (x : Bills). x .0) (getD-replicate types y (bills 0) (bills 0) small);
           };
       stands = record { shut = refl; clean = refl; missing = refl; bound = λ y small. lit≤ tt };
+      truly = tt;
     }
 
 -- after any calls at all
-always-agrees : (cs : List Call) → Agrees (reached cs) (past cs)
-unfolding reached past
-always-agrees [] = fresh-agrees
-always-agrees (c ∷ cs) = called-agrees (reached cs) (past cs) c (always-agrees cs)
+run-agrees : (s : Session) (h : Past) (cs : List Call) → Agrees s h → Agrees (run s cs) (historyFrom s h cs)
+unfolding run historyFrom
+run-agrees s h [] k = k
+run-agrees s h (c ∷ cs) k = run-agrees (called s c .session) (seen s c ∷ h) cs (called-agrees s h c k)
+
+always-agrees : (cs : List Call) → Agrees (run freshSession cs) (history cs)
+always-agrees cs = run-agrees freshSession [] cs fresh-agrees
 
 -- ---- what is promised
 
-pub bills-told : BillsTold
-bills-told cs = always-agrees cs .base .counts
-
-pub bills-few : BillsFew
-bills-few cs y small = by (reached cs .line .phase) (always-agrees cs .stands)
-  where
-    agrees : Base (reached cs .line) (reached cs .bills) (past cs)
-    agrees = always-agrees cs .base
-
-    by : (p : Phase) → Stands p (reached cs .line) (reached cs .store) (past cs) → counted y (past cs) ≤ commandLimit
-    by Idle st = omega (arith, st .bound y small, agrees .accepted-is, agrees .few)
-    by Start st = omega (arith, st .bound y small, agrees .accepted-is, agrees .few)
-    by Inside st = omega (arith, st .bound y small, agrees .accepted-is, agrees .few)
+-- no more bills of a type than commands accepted
+few-is : (l : Line) (store : List ℕ) (h : Past) (p : Phase) → Stands p l store h → (y : ℕ) → y < types → counted y h ≤ accepted h
+few-is l store h Idle st y small = st .bound y small
+few-is l store h Start st y small = omega (arith, st .bound y small)
+few-is l store h Inside st y small = omega (arith, st .bound y small)
 
 -- the store, by where the line stands
 store-is : (l : Line) (store : List ℕ) (h : Past) (p : Phase) → Stands p l store h
@@ -601,39 +655,26 @@ store-is l store h Idle st = rw (st .shut) (st .clean)
 store-is l store h Start st = rw (st .live) (rw (st .none) (st .clean))
 store-is l store h Inside st = rw (st .live) (rw (st .size) (st .filled))
 
-pub store-told : StoreTold
-store-told cs = store-is (reached cs .line) (reached cs .store) (past cs) (reached cs .line .phase) (always-agrees cs .stands)
+pub kept-by-history : KeptByHistory
+kept-by-history =
+    record {
+      bills = λ cs. always-agrees cs .base .counts;
+      few = λ cs y small.
+          let s = run freshSession cs in
+          let k = always-agrees cs in
+          omega (
+            arith,
+            few-is (s .line) (s .store) (history cs) (s .line .phase) (k .stands) y small,
+            k .base .accepted-is,
+            k .base .few,
+          );
+      store = λ cs.
+          let s = run freshSession cs in
+          store-is (s .line) (s .store) (history cs) (s .line .phase) (always-agrees cs .stands);
+      closings = λ cs. always-agrees cs .truly;
+    }
 
 -- ---- the numbers of a request
-
--- rules that give the same, each condition holding exactly where its like does, once those before it do not
-abbrev Alike : List (Rule Declined) → List (Rule Declined) → Type 0
-Alike [] [] = Unit {0}
-Alike [] (q ∷ qs) = ⊥
-Alike (r ∷ rs) [] = ⊥
-Alike (r ∷ rs) (q ∷ qs) = (r .gives ≡ q .gives) × (r .when .holds ↔ q .when .holds) × ((q .when .holds → ⊥) → Alike rs qs)
-
-first-alike : (rs qs : List (Rule Declined)) → Alike rs qs → (why : Declined) → First rs why ↔ First qs why
-first-alike [] [] a why = (λ f. f, λ f. f)
-first-alike [] (q ∷ qs) a why = absurd a
-first-alike (r ∷ rs) [] a why = absurd a
-first-alike (r ∷ rs) (q ∷ qs) a why = (
-  ⊎-elim
-      (λ f. inl (a .1 .0 (f .0), sym (a .0) ∙ f .1))
-      (λ f. let n : q .when .holds → ⊥ = λ h. f .0 (a .1 .1 h) in inr (n, first-alike rs qs (a .2 n) why .0 (f .1))),
-  ⊎-elim
-      (λ f. inl (a .1 .1 (f .0), a .0 ∙ f .1))
-      (λ f. inr ((λ h. f .0 (a .1 .0 h)), first-alike rs qs (a .2 (f .0)) why .1 (f .1))),
-)
-
-none-alike : (rs qs : List (Rule Declined)) → Alike rs qs → NoneOf rs ↔ NoneOf qs
-none-alike [] [] a = (λ n. n, λ n. n)
-none-alike [] (q ∷ qs) a = absurd a
-none-alike (r ∷ rs) [] a = absurd a
-none-alike (r ∷ rs) (q ∷ qs) a = (
-  λ n. let m : q .when .holds → ⊥ = λ h. n .0 (a .1 .1 h) in (m, none-alike rs qs (a .2 m) .0 (n .1)),
-  λ n. ((λ h. n .0 (a .1 .0 h)), none-alike rs qs (a .2 (n .0)) .1 (n .1)),
-)
 
 -- whether a command is open
 phase-told : (l : Line) (store : List ℕ) (h : Past) (p : Phase) → Stands p l store h → openIn p ≡ isOpen h
@@ -649,38 +690,48 @@ missing-told l store h Inside st n = absurd (n (st .live))
 
 module _ (s : Session) (h : Past) (k : Agrees s h) (code : ℕ) (given r : List ℕ) where
   refusals-alike : Alike (requestRefusals (s .line) code given r) (historyRefusals h code given r)
-  unfolding requestRefusals historyRefusals
+  unfolding requestRefusals
   refusals-alike =
       let o = phase-told (s .line) (s .store) h (s .line .phase) (k .stands) in
       let m = missing-told (s .line) (s .store) h (s .line .phase) (k .stands) in (
         refl,
-        (λ f. f, λ f. f),
-        λ n0. (
-          refl,
+        (
           (λ f. f, λ f. f),
-          λ n1. (
+          λ n0. (
             refl,
-            (λ f. sym o ∙ f, λ f. o ∙ f),
-            λ shut. (
-              refl,
-              (λ f. omega (arith, m shut), λ f. omega (arith, m shut)),
-              λ n3.
-                  (refl, (λ f. omega (arith, k .base .accepted-is), λ f. omega (arith, k .base .accepted-is)), λ n4. tt),
+            (
+              (λ f. f, λ f. f),
+              λ n1. (
+                refl,
+                (
+                  (λ f. sym o ∙ f, λ f. o ∙ f),
+                  λ shut.
+                      let left = m (λ f. shut (o ∙ f)) in (
+                        refl,
+                        (
+                          (λ f. omega (arith, left), λ f. omega (arith, left)),
+                          λ n3.
+                              (refl, ((λ f. omega (arith, k .base .accepted-is), λ f. omega (arith, k .base .accepted-is)), λ n4. tt)),
+                        ),
+                      ),
+                ),
+              ),
             ),
           ),
         ),
       )
 
-pub numbers-told : NumbersTold
-numbers-told cs code given r =
-    let s = reached cs in
-    let h = past cs in
+pub declines-by-history : DeclinesByHistory
+declines-by-history cs code given r =
+    let s = run freshSession cs in
+    let h = history cs in
+    let rs = requestRefusals (s .line) code given r in
+    let qs = historyRefusals h code given r in
     let a = refusals-alike s h (always-agrees cs) code given r in
+    let b = alike-back rs qs a in
     let d = exactly-when .request s code given r in
-    let f = first-alike (requestRefusals (s .line) code given r) (historyRefusals h code given r) a in
-    let n = none-alike (requestRefusals (s .line) code given r) (historyRefusals h code given r) a in
     record {
-      declined = λ why. (λ e. f why .0 (d .declined why .0 e), λ g. d .declined why .1 (f why .1 g));
+      declined = λ why. (λ e. first-alike rs qs a why (d .declined why .0 e), λ f. d .declined why .1 (first-alike qs rs b why f));
       kept = d .kept;
-      done = (λ t. n .0 (d .done .0 t), λ g. d .done .1 (n .1 g));
+      done = (λ t. none-alike rs qs a (d .done .0 t), λ n. d .done .1 (none-alike qs rs b n));
     }

@@ -1,32 +1,25 @@
 -- What an answer to a POLL leaves: the count of each type and what is remembered agree with the history. Assumes nothing.
 use Prim.Native.Nat.{ℕ, _+_, _≤_, _<_}
-use mathlib.Core.Path.{_≡_, refl, sym, ap, _∙_, subst}
-use mathlib.Core.Bool.{Bool, true, false, cond}
+use mathlib.Core.Path.{_≡_, refl, sym, ap, ap₂, _∙_}
+use mathlib.Core.Bool.{Bool, true, false, cond, not, _&&_}
 use mathlib.Core.List.{List, [], _∷_}
 use native.Mathlib.Omega.{arith}
 use lib.Dec.{eqb}
-use lib.ListN.{length, getD, set, length-set}
+use lib.ListN.{length, getD, length-set}
 use lib.Seq.{getD-set-same, getD-set-other}
 use borrow.Author.Tests.{lt-ltb, le-leb, eq-eqb, ne-eqb}
-use Rattle.numbers.specs.Rules.{Condition, same, under}
-use Rattle.numbers.proofs.Rules.{by-cases, holds-true, fails-false, cond-true, cond-false}
+use Rattle.numbers.specs.Rules.{same, under}
+use Rattle.numbers.proofs.Rules.{pick, by-cases, cond-true, cond-false}
 use Rattle.ccnet_frame.specs.Class.{classOf}
 use Rattle.ccnet_frame.specs.declared.class.Class.{Class}
 use Rattle.ledger.specs.Events.{Event}
 use Rattle.ledger.specs.Line.{accepted}
 use Rattle.validator.specs.Limits.{commandLimit, types}
 use Rattle.validator.specs.Bills.{bills, plus, bookedBy, stackedType, isPollAnswer, poll, credited, remembered}
-use Rattle.validator.specs.History.{Request, Ending, Past, lastCode, pollBody, reported, adds, counted}
+use Rattle.validator.specs.History.{Request, Ending, Past, lastCode, pollBody, reported, counted}
 use Rattle.validator.specs.declared.bills.Bills.{Bills}
 use Rattle.validator.specs.declared.line.Line.{Line}
 use Rattle.validator.proofs.Past.{nothing-reported, nothing-counted, counted-one, counted-none, stacked-is}
-
--- what holds of both values that a condition's test picks between holds of the one picked
-pub pick : {A : Type 0} (P : A → Type 0) (c : Condition) (x y : A) → (c .holds → P x) → ((c .holds → ⊥) → P y) → P (cond (c .test) x y)
-pick P c x y f g =
-    by-cases c
-    (λ h. subst P (sym (cond-true x y (holds-true c h))) (f h))
-    (λ n. subst P (sym (cond-false x y (fails-false c n))) (g n))
 
 -- ---- one bill booked
 
@@ -60,11 +53,11 @@ module _ (code last : ℕ) (c : Class) where
 
   pub credits-repeat : eqb code poll ≡ true → stackedType c ≡ last → credited code last c ≡ types
   unfolding credited
-  credits-repeat e f = rw (e, eq-eqb (stackedType c) last f)
+  credits-repeat e f = cond-false _ _ (ap₂ (λ (t u : Bool). t && not u) e (eq-eqb (stackedType c) last f))
 
   pub credits-one : eqb code poll ≡ true → (stackedType c ≡ last → ⊥) → credited code last c ≡ stackedType c
   unfolding credited
-  credits-one e f = rw (e, ne-eqb (stackedType c) last f)
+  credits-one e f = cond-true _ _ (ap₂ (λ (t u : Bool). t && not u) e (ne-eqb (stackedType c) last f))
 
 -- ---- the parts of a session that only requests and answers change
 

@@ -7,7 +7,7 @@ use types.Run.{OneOf, miss}
 use Rattle.ccnet_frame.specs.declared.class.Class.{Class}
 use Rattle.ccnet_frame.specs.declared.class.Class.the-variants.{Ack, Nak, Illegal, State, Busy, Rejecting, Failing, Escrow, Stacked, Returned, Unknown}
 use Rattle.ccnet_frame.proofs.class.Class.{the-type as class-type}
-use Rattle.validator.specs.Session.{LentAfter, acted, byteActed, classStep, answeredStep}
+use Rattle.validator.specs.Session.{acted, byteActed, classStep, answeredStep}
 use Rattle.validator.specs.declared.line.Line.{Line}
 use Rattle.validator.specs.declared.line.Todo.{Todo}
 use Rattle.validator.specs.declared.line.Todo.the-variants.{Nothing, Keep, Judge, Damage, Silence}

@@ -1,9 +1,9 @@
 -- Each number is given exactly when 01 says, a call that is declined leaves everything as it was, and a call that is done sends what its
 -- closing calls for. Assumes nothing.
 use Prim.Native.Nat.{ℕ}
-use mathlib.Core.Path.{_≡_, refl, sym, ap, ap₂, _∙_, subst}
+use mathlib.Core.Path.{_≡_, refl, sym, ap, _∙_, subst}
 use mathlib.Core.List.{List, _∷_}
-use mathlib.Core.Logic.{⊎-elim, _↔_}
+use mathlib.Core.Logic.{⊎-elim}
 use native.Mathlib.Omega.{arith}
 use lib.ListN.{set, take}
 use Rattle.numbers.specs.Rules.{Rule, judged, First, NoneOf}
@@ -18,7 +18,7 @@ use Rattle.validator.specs.Promises.{declinedAfter, Declines, ExactlyWhe
 use Rattle.validator.specs.declared.line.Line.{Line}
 use Rattle.validator.specs.declared.line.Todo.{Todo}
 use Rattle.validator.specs.declared.line.Todo.the-variants.{Nothing, Keep, Judge, Damage, Silence}
-use Rattle.validator.specs.declared.session.Declined.{Declined}
+use Rattle.ledger.specs.declared.Declined.{Declined}
 use Rattle.validator.specs.declared.session.Reply.{Reply}
 use Rattle.validator.specs.declared.session.Reply.the-variants.{Refused, Done}
 use Rattle.validator.specs.declared.session.Closing.{Closing}

@@ -1,3 +1,4 @@
+-- The laws of `validator`.
 pub mod Deeds
 pub mod Sending
 pub mod Reading
@@ -6,3 +7,4 @@ pub mod Tied
 pub mod Past
 pub mod Booking
 pub mod Agreeing
+pub mod Cited

@@ -1,17 +1,16 @@
 -- Laws of what a history gives: bytes gathered, answers reported, bills counted. Assumes nothing.
 use Prim.Native.Nat.{ℕ, zero, suc, _+_, _-_, _≤_, _<_}
-use mathlib.Core.Path.{_≡_, refl, sym, ap, _∙_, subst}
+use mathlib.Core.Path.{_≡_, refl, sym, ap, _∙_}
 use mathlib.Core.Bool.{Bool, true, false, cond}
 use mathlib.Core.List.{List, [], _∷_, _++_}
 use mathlib.Core.Logic.{_↔_}
 use native.Mathlib.Omega.{arith}
 use native.Mathlib.Nat.{le-refl}
-use lib.Dec.{eqb}
-use lib.ListN.{length, set, replicate, take, drop, length-append}
-use lib.Seq.{set-append-seam, take-append-seam}
-use Rattle.numbers.specs.Rules.{Condition, same}
-use Rattle.numbers.proofs.Rules.{holds-true, fails-false, by-cases, cond-true, cond-false}
-use Rattle.ccnet_frame.specs.Class.{classOf, classBytes, isType, isListed}
+use lib.Dec.{eqb, lit<}
+use lib.ListN.{length, set, replicate}
+use Rattle.numbers.specs.Promises.{Bytes}
+use Rattle.numbers.proofs.Rules.{holds-true, fails-false, cond-true, cond-false}
+use Rattle.ccnet_frame.specs.Class.{classOf, classBytes}
 use Rattle.ccnet_frame.specs.declared.class.Class.{Class}
 use Rattle.ccnet_frame.specs.declared.class.Class.the-variants.{Ack, Nak, Illegal, State, Busy, Rejecting, Failing, Escrow, Stacked, Returned, Unknown}
 use Rattle.ccnet_frame.proofs.Classes.{classes}
@@ -53,6 +52,14 @@ store-more [] b (suc k) h =
     let e : suc k - 1 ≡ k = omega arith in
     rw e
 store-more (a ∷ g) b k h = ap (λ (s : List ℕ). a ∷ s) (store-more g b k h)
+
+-- ---- bytes
+
+pub bytes-more : (g : List ℕ) (b : ℕ) → Bytes g → b < 256 → Bytes (g ++ (b ∷ []))
+bytes-more [] b bytes small zero = small
+bytes-more [] b bytes small (suc i) = lit< tt
+bytes-more (a ∷ g) b bytes small zero = bytes 0
+bytes-more (a ∷ g) b bytes small (suc i) = bytes-more g b (λ j. bytes (suc j)) small i
 
 -- ---- answers
 

@@ -1,5 +1,5 @@
 -- What the session sends is never refused by the writer: its room holds every frame. Assumes nothing.
-use Prim.Native.Nat.{ℕ, _+_, _≤_}
+use Prim.Native.Nat.{ℕ, _≤_}
 use mathlib.Core.Path.{_≡_, refl, sym, ap, ap₂, _∙_}
 use mathlib.Core.List.{List, [], _∷_}
 use mathlib.Core.Bool.{Bool, true, false, _||_}
@@ -8,7 +8,7 @@ use native.Mathlib.Omega.{arith}
 use lib.Dec.{lit≤}
 use lib.ListN.{length}
 use borrow.Author.Tests.{le-ltb}
-use Rattle.numbers.specs.Put.{written, writing, refused, laid, over}
+use Rattle.numbers.specs.Put.{written, writing, refused, laid}
 use Rattle.numbers.specs.declared.Put.{Put}
 use Rattle.numbers.specs.declared.Put.the-variants.{Bytes, Refused}
 use Rattle.numbers.specs.declared.Refusal.{Refusal}

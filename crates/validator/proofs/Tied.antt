@@ -7,8 +7,6 @@ use denote.Ref.{now}
 use Rattle.numbers.proofs.Tied.{Tied, tied}
 use Rattle.validator.specs.declared.session.Step.{Step}
 use Rattle.validator.specs.declared.session.Outcome.{Outcome}
-use Rattle.validator.proofs.session.Declined.number.Kinds as declined-number
-use Rattle.validator.proofs.session.Declined.number.Reads as declined-number-reads
 use Rattle.validator.proofs.session.Session.fresh.Kinds as fresh
 use Rattle.validator.proofs.session.Session.fresh.Reads as fresh-reads
 use Rattle.validator.proofs.bills.booked.Kinds as booked
@@ -25,9 +23,6 @@ use Rattle.validator.proofs.session.Session.tick.Kinds as tick
 use Rattle.validator.proofs.session.Session.tick.Reads as tick-reads
 use Rattle.validator.proofs.session.Session.request.Kinds as request
 use Rattle.validator.proofs.session.Session.request.Reads as request-reads
-
-pub declined-number-tied : Tied declined-number.ps declined-number.r declined-number-reads.Post (λ κs x e. x)
-declined-number-tied = tied declined-number.ps declined-number.r declined-number-reads.Post (λ κs x e. x) _ (λ κs a x e p. p)
 
 pub fresh-tied : Tied fresh.ps fresh.r fresh-reads.Post (λ κs x e. x)
 fresh-tied = tied fresh.ps fresh.r fresh-reads.Post (λ κs x e. x) _ (λ κs a x e p. p)

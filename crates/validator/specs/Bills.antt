@@ -18,7 +18,7 @@ plus a n = cond (leb (a .0 + n) 4_294_967_295) (bills (a .0 + n)) a
 
 -- no bill of any type
 abbrev pub noBills : List Bills
-noBills = replicate 24 (bills 0)
+noBills = replicate types (bills 0)
 
 -- "adds one bill of type y"; where y is no type, nothing is added
 unfoldable pub bookedBy : List Bills → ℕ → List Bills

@@ -1,17 +1,30 @@
--- What a history of calls on the validator gives (01, "The validator session"): from the calls, what they returned and the bytes accepted
--- alone. The newest call stands first.
-use Prim.Native.Nat.{ℕ, _+_, _-_}
+-- The history of calls on the validator, and what it gives (01, "The validator session"): from the calls, what they returned and the bytes
+-- accepted. Events, and what the numbers 3, 4 and 5 speak of, are defined in the room `ledger`. The newest call stands first. Proved in
+-- proofs/Agreeing.antt.
+use Prim.Native.Nat.{ℕ, _+_, _-_, _≤_, _<_}
 use mathlib.Core.Path.{_≡_, refl, sym, ap, ap₂}
 use mathlib.Core.Bool.{Bool, true, false, cond, _&&_, true≢false}
 use mathlib.Core.List.{List, [], _∷_, _++_}
 use native.Mathlib.Omega.{arith}
 use lib.Dec.{eqb}
-use lib.ListN.{length, take, drop}
-use Rattle.numbers.specs.Rules.{Tells, Condition, same, both, isnt, and-tells}
+use lib.ListN.{length, getD, take, drop, replicate}
+use Rattle.numbers.specs.Rules.{Tells, Condition, Rule, First, NoneOf, says, under, atMost, same, both, isnt, and-tells, _gives_}
+use Rattle.ccnet_frame.specs.Frame.{frame}
 use Rattle.ccnet_frame.specs.Class.{classOf}
 use Rattle.ledger.specs.Events.{Deed, asks, hears, waits, Left, goes-on, closes, Event, declined, done, History, since}
-use Rattle.ledger.specs.Line.{isOpen}
-use Rattle.validator.specs.Bills.{isPollAnswer, poll}
+use Rattle.ledger.specs.Line.{isOpen, quietTime, accepted}
+use Rattle.validator.specs.Limits.{quiet, leastRoom, commandLimit, storeSize, types}
+use Rattle.validator.specs.Bills.{bills, isPollAnswer, poll}
+use Rattle.validator.specs.Session.{isCommand, freshSession, sessionRequest}
+use Rattle.validator.specs.Promises.{Declines}
+use Rattle.validator.specs.Calls.{Call, request, byte, tick, called, run}
+use Rattle.validator.specs.declared.session.Closing.{Closing}
+use Rattle.validator.specs.declared.session.Closing.the-variants.{Nothing, Acknowledged, Refused as GaveUp, Illegal, Answered, Damaged, Silent}
+use Rattle.ledger.specs.declared.Declined.{Declined}
+use Rattle.ledger.specs.declared.Declined.the-variants.{Room, Range, Open, Unquiet, Spent}
+use Rattle.validator.specs.declared.session.Reply.{Reply}
+use Rattle.validator.specs.declared.session.Reply.the-variants.{Refused, Done}
+use Rattle.validator.specs.declared.session.Session.{Session}
 
 -- what a request asks for
 pub record Request : Type 0 where
@@ -29,6 +42,41 @@ pub data Ending : Type 0 where
 
 abbrev pub Past : Type 0
 Past = History Request Ending
+
+-- ---- the history of calls
+
+abbrev pub deed : Call → Deed Request
+deed (request code given r) = asks (record { code = code; given = given })
+deed (byte b small r) = hears b
+deed (tick ms r) = waits ms
+
+-- the closing that was returned; of an answer no more than that it came
+abbrev pub ending : Closing → Left Ending
+ending Nothing = goes-on
+ending Acknowledged = closes acknowledged
+ending GaveUp = closes refused
+ending Illegal = closes illegal
+ending (Answered c) = closes answered
+ending Damaged = closes damaged
+ending Silent = closes silent
+
+-- what the caller knows of a call: what it returned, and the bytes that it put at the room's start
+abbrev pub told : Deed Request → Reply → List ℕ → Event Request Ending
+told d (Refused why) room = declined
+told d (Done n closing) room = done d (take n room) (ending closing)
+
+abbrev pub seen : Session → Call → Event Request Ending
+seen s c = told (deed c) (called s c .reply) (called s c .room)
+
+-- the history after more calls
+unfoldable pub historyFrom : Session → Past → List Call → Past
+historyFrom s h [] = h
+historyFrom s h (c ∷ cs) = historyFrom (called s c .session) (seen s c ∷ h) cs
+
+abbrev pub history : List Call → Past
+history cs = historyFrom freshSession [] cs
+
+-- ---- what it gives
 
 -- the code of the last command accepted; 0 before the first
 unfoldable pub lastCode : Past → ℕ
@@ -110,3 +158,52 @@ adds y e h = both (alike (pollBody e h) (0x81 ∷ y ∷ [])) (isnt (alike (repor
 unfoldable pub counted : ℕ → Past → ℕ
 counted y [] = 0
 counted y (e ∷ h) = cond (adds y e h .test) (counted y h + 1) (counted y h)
+
+-- what the bytes say that ended with a closing: ACK, NAK, "illegal" and any other answer are frames as the layout has them, from address 03h
+abbrev pub Says : Ending → List ℕ → Type 0
+Says acknowledged f = f ≡ frame 0x03 (0x00 ∷ [])
+Says refused f = f ≡ frame 0x03 (0xFF ∷ [])
+Says illegal f = f ≡ frame 0x03 (0x30 ∷ [])
+Says answered f = f ≡ frame 0x03 (between f)
+Says damaged f = Unit {0}
+Says silent f = Unit {0}
+
+abbrev pub SaysOnce : Left Ending → List ℕ → Type 0
+SaysOnce goes-on f = Unit {0}
+SaysOnce (closes k) f = Says k f
+
+-- every closing that a call returned is what the bytes said
+unfoldable pub Truly : Past → Type 0
+Truly [] = Unit {0}
+Truly (declined ∷ h) = Truly h
+Truly (done (asks q) put left ∷ h) = Truly h
+Truly (done (hears b) put left ∷ h) = SaysOnce left (fromStart (since h ++ (b ∷ []))) × Truly h
+Truly (done (waits ms) put left ∷ h) = Truly h
+
+-- ---- what is promised, from a fresh session and after any calls at all
+
+-- the count of each type is what the history gives, so that none is ever cut; it is at most the number of commands that may be accepted; the
+-- gathering store holds the bytes gathered from 02h on, and then zeros: "all zero when fresh and again after each closing"; and every closing
+-- is what the bytes said
+pub record KeptByHistory : Type 0 where
+  pub bills : (cs : List Call) (y : ℕ) → y < types → getD (run freshSession cs .bills) y (bills 0) .0 ≡ counted y (history cs)
+  pub few : (cs : List Call) (y : ℕ) → y < types → counted y (history cs) ≤ commandLimit
+  pub store : (cs : List Call)
+      → run freshSession cs .store ≡ gathered (history cs) ++ replicate (storeSize - length (gathered (history cs))) 0
+  pub closings : (cs : List Call) → Truly (history cs)
+
+-- "Requests can meet 1 to 5", told from the history
+abbrev pub historyRefusals : Past → ℕ → List ℕ → List ℕ → List (Rule Declined)
+historyRefusals h code given r =
+    under (length r) leastRoom gives Room
+    ∷ isnt (isCommand code (length given)) gives Range
+    ∷ says (isOpen h) gives Open
+    ∷ under (quietTime h) quiet gives Unquiet
+    ∷ atMost commandLimit (accepted h) gives Spent
+    ∷ []
+
+-- a request is declined exactly as the history says
+abbrev pub DeclinesByHistory : Type 0
+DeclinesByHistory = (cs : List Call) (code : ℕ) (given r : List ℕ)
+    → Declines (First (historyRefusals (history cs) code given r)) (NoneOf (historyRefusals (history cs) code given r))
+    (run freshSession cs) r (sessionRequest (run freshSession cs) code given r)

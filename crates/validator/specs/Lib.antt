@@ -4,5 +4,5 @@ pub mod Line
 pub mod Bills
 pub mod Session
 pub mod Promises
-pub mod History
 pub mod Calls
+pub mod History

@@ -5,10 +5,8 @@ use mathlib.Core.List.{List, _∷_}
 use mathlib.Core.Logic.{_↔_}
 use Rattle.numbers.specs.Rules.{First, NoneOf}
 use Rattle.ccnet_frame.specs.Frame.{frame}
-use Rattle.ccnet_frame.specs.declared.class.Class.{Class}
 use Rattle.validator.specs.Session.{After, Sent, sent, sending, ack, nak, byteRefusals, tickRefusals, requestRefusals, sessionRequest, sessionByte, sessionTick}
-use Rattle.validator.specs.declared.session.Declined.{Declined}
-use Rattle.validator.specs.declared.session.Reply.{Reply}
+use Rattle.ledger.specs.declared.Declined.{Declined}
 use Rattle.validator.specs.declared.session.Reply.the-variants.{Refused, Done}
 use Rattle.validator.specs.declared.session.Closing.{Closing}
 use Rattle.validator.specs.declared.session.Closing.the-variants.{Nothing, Acknowledged, Refused as GaveUp, Illegal, Answered, Damaged, Silent}

@@ -1,10 +1,8 @@
 -- The validator session, call by call (01, "The validator session" and "Numbers a call can answer").
 use Prim.Native.Nat.{ℕ, _+_}
-use mathlib.Core.Path.{_≡_, sym, _∙_}
-use mathlib.Core.Bool.{Bool, true, true≢false}
 use mathlib.Core.List.{List, [], _∷_}
 use lib.ListN.{length, take, set, replicate}
-use Rattle.numbers.specs.Rules.{Condition, Rule, under, atMost, within, same, either, both, isnt, judged, _gives_}
+use Rattle.numbers.specs.Rules.{Condition, Rule, says, under, atMost, within, same, either, both, isnt, judged, _gives_}
 use Rattle.numbers.specs.Put.{over}
 use Rattle.ccnet_frame.specs.Frame.{frame, judgeFrame, bodyOf}
 use Rattle.ccnet_frame.specs.Class.{classOf}
@@ -14,12 +12,12 @@ use Rattle.ccnet_frame.specs.declared.class.Class.{Class}
 use Rattle.ccnet_frame.specs.declared.class.Class.the-variants.{Ack, Nak, Illegal as NotLegal, State, Busy, Rejecting, Failing, Escrow, Stacked, Returned, Unknown}
 use Rattle.validator.specs.Limits.{leastRoom, commandLimit, storeSize, types}
 use Rattle.validator.specs.Line.{freshLine, opened, remembers, isOpen, heard, passed}
-use Rattle.validator.specs.Bills.{noBills, bookedBy, credited, remembered}
+use Rattle.validator.specs.Bills.{poll, noBills, bookedBy, credited, remembered}
 use Rattle.validator.specs.declared.line.Line.{Line}
 use Rattle.validator.specs.declared.line.Todo.{Todo}
 use Rattle.validator.specs.declared.line.Todo.the-variants.{Nothing as Rest, Keep, Judge, Damage, Silence}
-use Rattle.validator.specs.declared.session.Declined.{Declined}
-use Rattle.validator.specs.declared.session.Declined.the-variants.{Room, Range, Open, Unquiet, Spent, Tick}
+use Rattle.ledger.specs.declared.Declined.{Declined}
+use Rattle.ledger.specs.declared.Declined.the-variants.{Room, Range, Open, Unquiet, Spent, Tick}
 use Rattle.validator.specs.declared.session.Closing.{Closing}
 use Rattle.validator.specs.declared.session.Closing.the-variants.{Nothing, Acknowledged, Refused as GaveUp, Illegal, Answered, Damaged, Silent}
 use Rattle.validator.specs.declared.session.Reply.{Reply}
@@ -30,22 +28,13 @@ use Rattle.validator.specs.declared.session.Step.{Step}
 use Rattle.validator.specs.declared.session.Session.{Session}
 use Rattle.validator.specs.declared.session.Outcome.{Outcome}
 
--- 01's number for each case
-abbrev pub declinedNumber : Declined → ℕ
-declinedNumber Room = 1
-declinedNumber Range = 2
-declinedNumber Open = 3
-declinedNumber Unquiet = 4
-declinedNumber Spent = 5
-declinedNumber Tick = 6
-
 -- "Commands (003): RESET 30h, POLL 33h, ENABLE BILL TYPES 34h with 6 data bytes, STACK 35h, RETURN 36h, HOLD 38h", and no data where none
 -- belongs
 unfoldable pub isCommand : ℕ → ℕ → Condition
 isCommand code size =
     either (both (same code 0x34) (same size 6))
     (both
-    (either (same code 0x30) (either (same code 0x33) (either (same code 0x35) (either (same code 0x36) (same code 0x38)))))
+    (either (same code 0x30) (either (same code poll) (either (same code 0x35) (either (same code 0x36) (same code 0x38)))))
     (same size 0))
 
 -- ---- what a call leaves
@@ -115,7 +104,7 @@ found s = foundIn (judgeFrame s) s
 
 -- "The gathering store is 255 bytes, all zero when fresh and again after each closing."
 abbrev pub zeros : List ℕ
-zeros = replicate 255 0
+zeros = replicate storeSize 0
 
 -- "a wrong check or a late frame sends a NAK frame and closes as damaged"
 unfoldable pub damagedStep : Line → List ℕ → LentAfter
@@ -190,10 +179,6 @@ tickStep l store ms r =
     judged (tickRefusals ms r) (λ why. lentAfter (refusedStep l why) store r) (acted (passed l ms .todo) (passed l ms .line) store r)
 
 -- ---- requests
-
--- a test that is true
-abbrev pub says : Bool → Condition
-says b = record { holds = b ≡ true; test = b; tells = record { shown = λ e. e; denied = λ e h. true≢false (sym h ∙ e) } }
 
 -- "Requests can meet 1 to 5": "the lowest that applies is given"
 unfoldable pub requestRefusals : Line → ℕ → List ℕ → List ℕ → List (Rule Declined)

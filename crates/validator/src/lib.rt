@@ -9,7 +9,6 @@ pub use bills::booked;
 pub use line::Line;
 pub use line::Phase;
 pub use session::Closing;
-pub use session::Declined;
 pub use session::Outcome;
 pub use session::Reply;
 pub use session::Session;

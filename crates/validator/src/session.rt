@@ -5,7 +5,7 @@ ghost use Prim.Native.Nat.{_≤_};
 ghost use lib.ListN.{length, set, take};
 ghost use Rattle.ccnet_frame.specs.Frame.{frame};
 ghost use Rattle.validator.specs.Bills.{stackedType, isPollAnswer, credited, remembered};
-ghost use Rattle.validator.specs.Session.{declinedNumber, isCommand, ack, nak, sent, sending, zeros, found, stepped, refusedStep, stepAfter, lentAfter, after, damagedStep, answeredStep, classStep, judgeStep, acted, byteStep, tickStep, requestStep, freshSession, sessionRequest, sessionByte, sessionTick};
+ghost use Rattle.validator.specs.Session.{isCommand, ack, nak, sent, sending, zeros, found, stepped, refusedStep, stepAfter, lentAfter, after, damagedStep, answeredStep, classStep, judgeStep, acted, byteStep, tickStep, requestStep, freshSession, sessionRequest, sessionByte, sessionTick};
 use crate::bills::Bills;
 use crate::bills::booked;
 use crate::line::Line;
@@ -16,39 +16,8 @@ use ccnet_frame::classify;
 use ccnet_frame::write_ack;
 use ccnet_frame::write_command;
 use ccnet_frame::write_nak;
+use ledger::Declined;
 use numbers::Put;
-
-// Why a call is declined.
-pub enum Declined {
-    // The room lent for sending is too small.
-    Room,
-    // The code is not among the commands, or the data are not what belongs to it.
-    Range,
-    // A command is open.
-    Open,
-    // The line has not been quiet long enough.
-    Unquiet,
-    // As many commands were accepted as may be.
-    Spent,
-    // A tick is not 1 to 1,000 ms.
-    Tick,
-}
-
-impl Declined {
-    // Document 01's number.
-    pub fn number(self) -> u8
-        ensures { λ r. ⌜ r ≡ declinedNumber self ⌝ }
-    {
-        match self {
-            Declined::Room => 1,
-            Declined::Range => 2,
-            Declined::Open => 3,
-            Declined::Unquiet => 4,
-            Declined::Spent => 5,
-            Declined::Tick => 6,
-        }
-    }
-}
 
 // How a call closed the open command, if it did.
 pub enum Closing {
@@ -98,13 +67,20 @@ enum Found {
     Good(Class),
 }
 
-// POLL's code.
-const POLL: u64 = 0x33;
+// The commands (003), and how many data bytes belong to ENABLE BILL TYPES.
+const RESET: u8 = 0x30;
 
-// ENABLE BILL TYPES, and how many data bytes belong to it.
+const POLL: u8 = 0x33;
+
 const ENABLE: u8 = 0x34;
 
 const ENABLE_DATA: usize = 6;
+
+const STACK: u8 = 0x35;
+
+const RETURN: u8 = 0x36;
+
+const HOLD: u8 = 0x38;
 
 // The validator's address.
 const VALIDATOR: u8 = 0x03;
@@ -116,19 +92,19 @@ fn is_command(code: u8, size: usize) -> bool
     if code == ENABLE {
         return size == ENABLE_DATA;
     }
-    if code == 0x30 {
+    if code == RESET {
         return size == 0;
     }
-    if code == 0x33 {
+    if code == POLL {
         return size == 0;
     }
-    if code == 0x35 {
+    if code == STACK {
         return size == 0;
     }
-    if code == 0x36 {
+    if code == RETURN {
         return size == 0;
     }
-    if code == 0x38 {
+    if code == HOLD {
         return size == 0;
     }
     false
@@ -266,7 +242,7 @@ fn is_poll_answer(class: Class) -> bool
 fn credit(code: u64, last: usize, class: Class) -> usize
     ensures { λ r. ⌜ r ≡ credited code last class ⌝ }
 {
-    if code != POLL {
+    if code != POLL as u64 {
         return Session::TYPES;
     }
     let y = stacked(class);
@@ -280,7 +256,7 @@ fn credit(code: u64, last: usize, class: Class) -> usize
 fn memory(code: u64, last: usize, class: Class) -> usize
     ensures { λ r. ⌜ r ≡ remembered code last class ⌝ }
 {
-    if code != POLL {
+    if code != POLL as u64 {
         return last;
     }
     if is_poll_answer(class) {

@@ -5,6 +5,9 @@ use borrow.Author.Needs.{needs}
 use Rattle.validator.proofs.session.credit.Statement.{statement}
 use Rattle.validator.proofs.session.credit.Tie as tie
 
+cast-if1 : tie.Need-cast-if1
+cast-if1 c = search needs
+
 returns : tie.Need-returns
 unfolding credited
 returns c = rw (ne-eqb _ _ (c .if1 .taken))
@@ -21,4 +24,4 @@ unfolding credited
 returns-3 c = rw (eq-eqb _ _ (c .before .before .if1 .left), ← c .before .stacked .ensures, ne-eqb _ _ (c .if2 .left))
 
 pub credit-spec : {M : Type 1} → statement M
-credit-spec = tie.close (tie.spec returns stacked-requires returns-2 returns-3)
+credit-spec = tie.close (tie.spec cast-if1 returns stacked-requires returns-2 returns-3)

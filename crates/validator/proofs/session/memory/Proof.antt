@@ -5,6 +5,9 @@ use borrow.Author.Needs.{needs}
 use Rattle.validator.proofs.session.memory.Statement.{statement}
 use Rattle.validator.proofs.session.memory.Tie as tie
 
+cast-if1 : tie.Need-cast-if1
+cast-if1 c = search needs
+
 returns : tie.Need-returns
 unfolding remembered
 returns c = rw (ne-eqb _ _ (c .if1 .taken))
@@ -25,4 +28,4 @@ returns-3 c = rw (eq-eqb _ _ (c .before .before .if1 .left), ← c .before .is-p
 
 pub memory-spec : {M : Type 1} → statement M
 memory-spec =
-    tie.close (tie.spec returns is-poll-answer-requires stacked-requires returns-2 returns-3)
+    tie.close (tie.spec cast-if1 returns is-poll-answer-requires stacked-requires returns-2 returns-3)

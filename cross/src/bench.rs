@@ -1,0 +1,456 @@
+//! A bench at work: somebody who asks, a dispenser and a validator which answer, err, are late and repeat themselves. What
+//! happens is recorded event by event. The host on this bench is the replay itself, so that the devices know what was sent.
+
+use crate::ccnet_frame;
+use crate::dispenser::{Closing, Sent, Session};
+use crate::dispenser_frame::{answer, Code, Command, Counted};
+use crate::random::Random;
+use crate::recording::{self, Record};
+use crate::replay::{Bench, Played};
+use crate::validator;
+
+/// What a device has still to say: when, and which byte.
+type Saying = std::collections::VecDeque<(u64, u8)>;
+
+/// How a device behaves through a recording.
+#[derive(Clone, Copy, PartialEq, Eq)]
+enum Temper {
+    /// Does what it is asked.
+    Smooth,
+    /// Now and then something goes wrong.
+    Usual,
+    /// More goes wrong than right.
+    Rough,
+    /// Says no, or garbles what it says, time after time.
+    Stubborn,
+}
+
+/// Whom the one who asks is busy with.
+#[derive(Clone, Copy, PartialEq, Eq)]
+enum Busy {
+    Dispenser,
+    Validator,
+    Both,
+}
+
+pub struct Simulation {
+    random: Random,
+    host: Bench,
+    recorded: Vec<u8>,
+    now: u64,
+    temper: Temper,
+    busy: Busy,
+    /// The command that the dispenser was last handed.
+    command: Command,
+    dispenser: Saying,
+    validator: Saying,
+    /// What the validator last said to a POLL.
+    said: Vec<u8>,
+}
+
+impl Simulation {
+    pub fn new(seed: u64) -> Simulation {
+        let mut random = Random::new(seed);
+        let temper = random.pick(&[Temper::Smooth, Temper::Usual, Temper::Usual, Temper::Rough, Temper::Stubborn]);
+        let busy = random.pick(&[Busy::Dispenser, Busy::Dispenser, Busy::Validator, Busy::Both]);
+        Simulation {
+            random,
+            host: Bench::fresh(),
+            recorded: Vec::new(),
+            now: 0,
+            temper,
+            busy,
+            command: Command { code: Code::Status, upper: 0, lower: 0 },
+            dispenser: Saying::new(),
+            validator: Saying::new(),
+            said: vec![0x14],
+        }
+    }
+
+    /// Runs until so many bytes are recorded, or a few more: the last record is whole.
+    pub fn run(mut self, length: usize) -> Vec<u8> {
+        while self.recorded.len() < length {
+            if self.random.once_in(60) {
+                self.busy = self.random.pick(&[Busy::Dispenser, Busy::Validator, Busy::Both]);
+            }
+            self.step();
+        }
+        self.recorded
+    }
+
+    fn step(&mut self) {
+        let now = self.now;
+        if let Some(&(due, byte)) = self.dispenser.front() {
+            if due <= now {
+                self.dispenser.pop_front();
+                return self.record(Record::DispenserByte(byte));
+            }
+        }
+        if let Some(&(due, byte)) = self.validator.front() {
+            if due <= now {
+                self.validator.pop_front();
+                return self.record(Record::ValidatorByte(byte));
+            }
+        }
+        if self.busy != Busy::Dispenser && self.ask() {
+            return;
+        }
+        if self.busy != Busy::Validator && self.request() {
+            return;
+        }
+        if self.random.once_in(150) {
+            return self.stray();
+        }
+        let ms = self.pause();
+        self.record(Record::Tick(ms));
+    }
+
+    /// A dispenser request, where one is due or somebody cannot wait.
+    fn request(&mut self) -> bool {
+        let due = match self.host.dispenser.quiet() {
+            Some((quiet, needed)) if quiet >= needed => self.random.once_in(2),
+            _ => self.random.once_in(60),
+        };
+        if due {
+            let command = self.command();
+            self.record(Record::Request(command));
+        }
+        due
+    }
+
+    fn command(&mut self) -> Command {
+        let random = &mut self.random;
+        let code = match random.below(10) {
+            0..=2 => Code::PayUpper,
+            3..=4 => Code::PayLower,
+            5..=6 => Code::PayBoth,
+            _ => random.pick(&Code::ALL),
+        };
+        let mut count = || match random.below(8) {
+            0 => random.pick(&[1, 60, 59, 2]),
+            1 if random.once_in(3) => random.pick(&[0, 61, 99, 266, u32::MAX]),
+            _ => random.within(1, 30),
+        };
+        let (mut upper, mut lower) = (count(), count());
+        let slip = random.once_in(40);
+        if !slip && !matches!(code, Code::PayUpper | Code::PayBoth) {
+            upper = 0;
+        }
+        if !slip && !matches!(code, Code::PayLower | Code::PayBoth) {
+            lower = 0;
+        }
+        Command { code, upper, lower }
+    }
+
+    /// A validator request.
+    fn ask(&mut self) -> bool {
+        let due = if self.host.validator.is_open() { self.random.once_in(60) } else { self.random.once_in(3) };
+        if due {
+            let poll = !self.random.once_in(5);
+            let command = if poll { validator::Command::Poll } else { self.random.pick(&validator::Command::ALL) };
+            self.record(Record::Ask(command));
+        }
+        due
+    }
+
+    /// A byte that nobody asked for.
+    fn stray(&mut self) {
+        let byte = self.random.pick(&[0x00, 0x01, 0x02, 0x03, 0x04, 0x06, 0x15, 0x50, 0xFF]);
+        let record = if self.random.once_in(2) { Record::DispenserByte(byte) } else { Record::ValidatorByte(byte) };
+        self.record(record);
+    }
+
+    /// How long to wait: to the next byte that is due, to the end of the quiet time, or as it comes.
+    fn pause(&mut self) -> u32 {
+        if self.random.once_in(200) {
+            return self.random.pick(&[0, 1_001, 2_000, 128_000, u32::MAX]);
+        }
+        let due = [self.dispenser.front(), self.validator.front()].into_iter().flatten().map(|&(due, _)| due).min();
+        let exact = match due {
+            Some(due) => due - self.now,
+            None if self.host.validator.is_open() => self.random.pick(&[1, 5, 9, 10, 100, 400]),
+            None if self.busy == Busy::Validator => self.random.pick(&[20, 20, 19, 21, 50, 1_000]),
+            None => match self.host.dispenser.quiet() {
+                Some((quiet, needed)) if quiet < needed => u64::from(needed - quiet),
+                _ => 1_000,
+            },
+        };
+        let ms = match self.random.below(20) {
+            0 => exact + 1,
+            1 if exact > 1 => exact - 1,
+            2 => u64::from(self.random.within(1, 1_000)),
+            _ => exact,
+        };
+        ms.clamp(1, 1_000) as u32
+    }
+
+    /// Records what happens, lets the host have it, and lets the devices hear what the host sends.
+    fn record(&mut self, record: Record) {
+        match record {
+            Record::Request(c) => {
+                recording::write(recording::REQUEST, &[u32::from(c.code.byte()), c.upper, c.lower], &mut self.recorded)
+            }
+            Record::DispenserByte(b) => {
+                recording::write(recording::DISPENSER_BYTE, &[u32::from(b)], &mut self.recorded)
+            }
+            Record::Tick(ms) => recording::write(recording::TICK, &[ms], &mut self.recorded),
+            Record::ValidatorByte(b) => {
+                recording::write(recording::VALIDATOR_BYTE, &[u32::from(b)], &mut self.recorded)
+            }
+            Record::Ask(c) => recording::write(recording::ASK, &[u32::from(c.byte())], &mut self.recorded),
+        }
+        let played = self.host.play(record);
+        if matches!(played, Played::Declined(_)) {
+            return;
+        }
+        match record {
+            Record::Tick(ms) => self.now += u64::from(ms),
+            Record::Request(command) => self.command = command,
+            Record::Ask(command) => self.validator_hears(command),
+            _ => {}
+        }
+        if let Played::Dispenser(step) | Played::Both(step, _) = played {
+            match step.sent {
+                Sent::Command => self.dispenser_is_handed(),
+                Sent::Nak if step.closing.is_none() => self.dispenser_says(),
+                _ => {}
+            }
+            if matches!(step.closing, Some(Closing::Unknown(_))) && self.random.once_in(3) {
+                self.busy = Busy::Dispenser;
+            }
+        }
+    }
+
+    /// Whether something goes wrong this time.
+    fn errs(&mut self) -> bool {
+        match self.temper {
+            Temper::Smooth => self.random.once_in(50),
+            Temper::Usual => self.random.once_in(6),
+            Temper::Rough => !self.random.once_in(3),
+            Temper::Stubborn => !self.random.once_in(8),
+        }
+    }
+
+    // The dispenser
+
+    /// The dispenser has a command's frame: its first byte, and perhaps its answer.
+    fn dispenser_is_handed(&mut self) {
+        self.dispenser.clear();
+        let soon = self.now + self.random.pick(&[0, 1, 3, 20, 100, 1_000]);
+        if !self.errs() {
+            self.dispenser.push_back((soon, 0x06));
+            return self.dispenser_answers(soon);
+        }
+        match self.random.below(10) {
+            0..=3 => self.dispenser.push_back((soon, 0x15)),
+            4 => {
+                let byte = self.random.pick(&[0x00, 0x01, 0x04, 0x05, 0x07, 0x14, 0x86, 0x95, 0xFF]);
+                self.dispenser.push_back((soon, byte));
+            }
+            5 => {}
+            6 => {
+                // the first byte at the very end of its wait, or one too late
+                let late = self.now + u64::from(Session::FIRST_BYTE) - u64::from(self.random.below(2));
+                self.dispenser.push_back((late, 0x06));
+                self.dispenser_answers(late);
+            }
+            7 => self.dispenser.push_back((soon, 0x06)),
+            _ => {
+                self.dispenser.push_back((soon, 0x06));
+                self.dispenser_answers(soon);
+            }
+        }
+    }
+
+    /// The answer that follows a 06h given at `from`.
+    fn dispenser_answers(&mut self, from: u64) {
+        let work = match self.random.below(12) {
+            0 => Session::ANSWER - self.random.below(3),
+            1 => self.random.within(1, 60_000),
+            _ => self.random.pick(&[0, 10, 300, 800, 2_000]),
+        };
+        self.dispenser_sends(from + u64::from(work));
+    }
+
+    /// The dispenser heard our 15h: its answer again.
+    fn dispenser_says(&mut self) {
+        self.dispenser.clear();
+        let work = match self.random.below(8) {
+            0 => Session::AFTER_NAK - self.random.below(3),
+            1 => return,
+            _ => self.random.pick(&[0, 5, 100, 900]),
+        };
+        self.dispenser_sends(self.now + u64::from(work));
+    }
+
+    fn dispenser_sends(&mut self, mut at: u64) {
+        let mut frame = self.answer();
+        if self.random.once_in(10) {
+            // noise before the frame
+            for _ in 0..self.random.within(1, 3) {
+                let byte = self.random.pick(&[0x06, 0x15, 0x50, 0x03, 0x04, 0x00]);
+                self.dispenser.push_back((at, byte));
+            }
+        }
+        let mut slow = 0;
+        if self.errs() {
+            let last = frame.len() - 1;
+            match self.random.below(7) {
+                0 => frame[last] ^= 1 << self.random.below(8),
+                1 => {
+                    let place = self.random.below(last as u32 + 1) as usize;
+                    frame[place] = self.random.byte();
+                }
+                2 => frame.truncate(self.random.within(1, last as u32) as usize),
+                3 => {
+                    let place = self.random.below(last as u32) as usize;
+                    let byte = self.random.pick(&[0x01, 0x03, 0x04, 0x06, 0x15, 0x30]);
+                    frame.insert(place, byte);
+                }
+                4 => slow = self.random.pick(&[198, 199, 200, 201, 500]),
+                5 => {
+                    // one byte wrong under a check that is right
+                    let place = self.random.within(1, last as u32 - 1) as usize;
+                    let turned = 1 << self.random.below(8);
+                    frame[place] ^= turned;
+                    frame[last] ^= turned;
+                }
+                _ => frame = self.another_answer(),
+            }
+        }
+        let gap = self.random.pick(&[0, 0, 0, 1, 5]);
+        let stop = self.random.below(frame.len() as u32) as usize;
+        for (place, byte) in frame.into_iter().enumerate() {
+            at += if place == 0 { 0 } else { gap };
+            if place == stop && place > 0 {
+                at += slow;
+            }
+            self.dispenser.push_back((at, byte));
+        }
+    }
+
+    /// What the dispenser says of the command it was handed.
+    fn answer(&mut self) -> Vec<u8> {
+        let Command { code, upper, lower } = self.command;
+        let error = if self.random.once_in(4) { self.random.within(0x30, 0x7F) as u8 } else { 0x30 };
+        let (upper, lower) = (self.counted(upper), self.counted(lower));
+        answer(code, upper, lower, error)
+    }
+
+    /// A well-made answer to another command, or one with a field out of its range.
+    fn another_answer(&mut self) -> Vec<u8> {
+        let counted = Counted {
+            chk: self.random.pick(&[0, 29, 30, 69, 70, 99]),
+            exit: self.random.pick(&[0, 10, 69, 70, 99]),
+            state: self.random.pick(&[0x2F, 0x30, 0x31, 0x32]),
+            rejects: self.random.below(100) as u8,
+        };
+        let error = self.random.pick(&[0x2F, 0x30, 0x39, 0x7F, 0x80]);
+        let code = if self.random.once_in(2) { self.command.code } else { self.random.pick(&Code::ALL) };
+        answer(code, counted, counted, error)
+    }
+
+    fn counted(&mut self, asked: u32) -> Counted {
+        let asked = asked.min(60) as u8;
+        let exit = match self.random.below(8) {
+            0 => self.random.below(u32::from(asked) + 1) as u8,
+            1 => (asked + self.random.within(1, 9) as u8).min(69),
+            _ => asked,
+        };
+        let rejects = if self.random.once_in(3) { self.random.below(100) as u8 } else { 0 };
+        let more = if self.random.once_in(3) { 2 } else { 0 };
+        Counted {
+            chk: if asked == 0 { self.random.below(30) as u8 } else { (exit + more).min(69) },
+            exit,
+            state: self.random.pick(&[0x30, 0x31]),
+            rejects,
+        }
+    }
+
+    // The validator
+
+    fn validator_hears(&mut self, command: validator::Command) {
+        self.validator.clear();
+        let body = if command == validator::Command::Poll { self.polled() } else { self.obeyed() };
+        let Some(mut frame) = ccnet_frame::write(0x03, &body) else { return };
+        let mut at = self.now + self.random.pick(&[0, 0, 0, 1, 5, 8]);
+        let mut slow = 0;
+        let errs = match self.temper {
+            Temper::Stubborn => self.random.once_in(3),
+            _ => self.errs(),
+        };
+        if errs {
+            let last = frame.len() - 1;
+            match self.random.below(10) {
+                0 => return,
+                1 => at = self.now + self.random.pick(&[9, 10, 11]),
+                2 => frame[1] = self.random.pick(&[0x00, 0x01, 0x02, 0x04, 0x0F, 0x10]),
+                // a good frame of another address
+                3 => frame = ccnet_frame::write(self.random.pick(&[0x01, 0x02, 0x04, 0x0F]), &body).unwrap_or(frame),
+                4 => {
+                    frame[2] = self.random.pick(&[0x00, 0x04, 0x05, 0x05, 0x06, 0x07, 0x08, 0xFF]);
+                    if self.random.once_in(2) {
+                        frame.truncate(3);
+                    }
+                }
+                5 => frame[last - 1] ^= 1 << self.random.below(8),
+                6 => frame[last] ^= 1 << self.random.below(8),
+                7 => frame.truncate(self.random.within(1, last as u32) as usize),
+                8 => slow = self.random.pick(&[398, 399, 400, 401, 900]),
+                _ => {
+                    for _ in 0..self.random.within(1, 3) {
+                        let byte = self.random.pick(&[0x00, 0x03, 0x06, 0xFF]);
+                        frame.insert(0, byte);
+                    }
+                }
+            }
+        }
+        let stop = self.random.within(1, frame.len() as u32) as usize;
+        for (place, byte) in frame.into_iter().enumerate() {
+            if place == stop {
+                at += slow;
+            }
+            self.validator.push_back((at, byte));
+        }
+    }
+
+    /// What the validator says to a POLL; often what it said before.
+    fn polled(&mut self) -> Vec<u8> {
+        if self.random.once_in(3) {
+            return self.said.clone();
+        }
+        let bill = self.random.pick(&[0, 1, 2, 3, 3, 3, 12, 22, 23, 24]);
+        let body = match self.random.below(16) {
+            0..=4 => vec![0x81, bill],
+            5 => vec![0x80, bill],
+            6 => vec![0x82, bill],
+            7 => vec![self.random.within(0x0F, 0x1D) as u8],
+            8 => vec![self.random.within(0x40, 0x48) as u8],
+            9 => vec![0x1B, self.random.byte()],
+            10 => vec![0x1C, self.random.within(0x5F, 0x6D) as u8],
+            11 => vec![0x47, self.random.within(0x4F, 0x60) as u8],
+            12 => return vec![self.random.pick(&[0x00, 0xFF, 0x30])],
+            13 => {
+                // neither listed nor expected: never remembered by the host
+                let length =
+                    if self.random.once_in(10) { self.random.within(1, 250) } else { self.random.within(1, 4) };
+                return (0..length).map(|_| self.random.byte()).collect();
+            }
+            14 => return vec![0x81, bill, 0x00],
+            _ => vec![0x14],
+        };
+        self.said = body.clone();
+        body
+    }
+
+    /// What the validator says to any other command.
+    fn obeyed(&mut self) -> Vec<u8> {
+        match self.random.below(8) {
+            0..=3 => vec![0x00],
+            4 => vec![0xFF],
+            5 => vec![0x30],
+            6 => vec![0x81, 3],
+            _ => vec![self.random.byte(), self.random.byte()],
+        }
+    }
+}

@@ -1,0 +1,254 @@
+//! Recordings to try, each made from a seed and its place in the run alone.
+
+use crate::bench::Simulation;
+use crate::dispenser_frame::Code;
+use crate::number;
+use crate::random::Random;
+use crate::recording::{self, LONGEST};
+use crate::validator;
+
+#[derive(Clone, Copy, Debug, PartialEq, Eq)]
+pub enum Family {
+    /// A bench at work.
+    Plausible,
+    /// The same, with bytes changed, lost, added, moved or doubled.
+    Damaged,
+    /// Records of every kind with numbers around every limit.
+    Records,
+    /// Any bytes.
+    Bytes,
+    /// A few bytes.
+    Short,
+    /// Near the longest length, and over it.
+    Long,
+}
+
+impl Family {
+    pub const ALL: [Family; 6] =
+        [Family::Plausible, Family::Damaged, Family::Records, Family::Bytes, Family::Short, Family::Long];
+
+    pub fn name(self) -> &'static str {
+        match self {
+            Family::Plausible => "plausible",
+            Family::Damaged => "damaged",
+            Family::Records => "records",
+            Family::Bytes => "bytes",
+            Family::Short => "short",
+            Family::Long => "long",
+        }
+    }
+
+    /// The families take turns: of a hundred recordings, so many of each.
+    fn of(index: u64) -> Family {
+        match index * 37 % 100 {
+            0..=54 => Family::Plausible,
+            55..=74 => Family::Damaged,
+            75..=84 => Family::Records,
+            85..=88 => Family::Bytes,
+            89..=98 => Family::Short,
+            _ => Family::Long,
+        }
+    }
+}
+
+/// The recording at `index` of the run with this seed.
+pub fn recording(seed: u64, index: u64) -> (Family, Vec<u8>) {
+    let mut random = Random::new(seed ^ index.wrapping_mul(0xD6E8_FEB8_6659_FD93));
+    let random = &mut random;
+    let family = Family::of(index);
+    let bytes = match family {
+        Family::Plausible => plausible(random),
+        Family::Damaged => damaged(random),
+        Family::Records => records(random),
+        Family::Bytes => bytes(random, 200),
+        Family::Short => short(random),
+        Family::Long => long(random),
+    };
+    (family, bytes)
+}
+
+fn plausible(random: &mut Random) -> Vec<u8> {
+    let length = match random.below(10) {
+        0 => random.within(2_000, 8_000),
+        1..=4 => random.within(400, 2_000),
+        _ => random.within(30, 600),
+    };
+    Simulation::new(random.word()).run(length as usize)
+}
+
+fn damaged(random: &mut Random) -> Vec<u8> {
+    let length = random.within(20, 800);
+    let mut bytes = Simulation::new(random.word()).run(length as usize);
+    for _ in 0..random.pick(&[1, 1, 1, 2, 4]) {
+        damage(random, &mut bytes);
+    }
+    bytes
+}
+
+fn damage(random: &mut Random, bytes: &mut Vec<u8>) {
+    if bytes.is_empty() {
+        return;
+    }
+    let length = bytes.len();
+    let place = random.below(length as u32) as usize;
+    let some = place..(place + random.within(1, 12) as usize).min(length);
+    match random.below(8) {
+        0 => bytes[place] = random.byte(),
+        1 => bytes[place] ^= 1 << random.below(8),
+        2 => drop(bytes.remove(place)),
+        3 => bytes.insert(place, random.byte()),
+        4 => bytes.truncate(place),
+        5 => drop(bytes.drain(some)),
+        6 => {
+            let again = bytes[some].to_vec();
+            bytes.splice(place..place, again);
+        }
+        _ => bytes[place] |= 0x80,
+    }
+}
+
+/// Records whose numbers lie around the limits, most of them good.
+fn records(random: &mut Random) -> Vec<u8> {
+    let mut bytes = Vec::new();
+    for _ in 0..random.within(1, 80) {
+        record(random, &mut bytes);
+    }
+    bytes
+}
+
+fn record(random: &mut Random, bytes: &mut Vec<u8>) {
+    match random.below(60) {
+        0..=9 => {
+            let code = if random.once_in(40) { random.byte() } else { random.pick(&Code::ALL).byte() };
+            let (upper, lower) = (value(random), value(random));
+            recording::write(recording::REQUEST, &[u32::from(code), upper, lower], bytes);
+        }
+        10..=19 => {
+            let byte = if random.once_in(60) { value(random) } else { u32::from(line_byte(random)) };
+            recording::write(recording::DISPENSER_BYTE, &[byte], bytes);
+        }
+        20..=34 => {
+            let ms =
+                if random.once_in(10) { value(random) } else { random.pick(&[1, 9, 10, 20, 200, 400, 999, 1_000]) };
+            recording::write(recording::TICK, &[ms], bytes);
+        }
+        35..=44 => {
+            let byte = if random.once_in(60) { value(random) } else { u32::from(line_byte(random)) };
+            recording::write(recording::VALIDATOR_BYTE, &[byte], bytes);
+        }
+        45..=58 => {
+            let code = if random.once_in(60) { 0x34 } else { random.pick(&validator::Command::ALL).byte() };
+            recording::write(recording::ASK, &[u32::from(code)], bytes);
+        }
+        _ => {
+            // a kind with a number that may be too long, too large or not in shortest form
+            bytes.push(random.below(6) as u8);
+            match random.below(6) {
+                0 => bytes.extend([random.byte() | 0x80, 0x00]),
+                1 => bytes.extend([0x80, 0x80, 0x80, 0x80, random.within(0x0E, 0x11) as u8]),
+                2 => bytes.extend([0xFF, 0xFF, 0xFF, 0xFF, 0x8F]),
+                3 => bytes.extend([0x80, 0x80, 0x80, 0x80, 0x00]),
+                4 => {}
+                _ => number::write(random.word() as u32, bytes),
+            }
+        }
+    }
+}
+
+fn line_byte(random: &mut Random) -> u8 {
+    if random.once_in(4) {
+        return random.byte();
+    }
+    random.pick(&[0x00, 0x01, 0x02, 0x03, 0x04, 0x06, 0x15, 0x30, 0x31, 0x45, 0x50, 0x81])
+}
+
+fn value(random: &mut Random) -> u32 {
+    match random.below(4) {
+        0 => random.pick(&[0, 1, 59, 60, 61, 127, 128, 255, 256, 999, 1_000, 1_001]),
+        1 => random.pick(&[16_383, 16_384, 2_097_151, 2_097_152, 268_435_455, 268_435_456, u32::MAX]),
+        2 => random.below(61),
+        _ => 0,
+    }
+}
+
+fn bytes(random: &mut Random, most: u32) -> Vec<u8> {
+    (0..random.below(most + 1)).map(|_| random.byte()).collect()
+}
+
+fn short(random: &mut Random) -> Vec<u8> {
+    match random.below(3) {
+        0 => bytes(random, 6),
+        1 => {
+            let mut bytes = Vec::new();
+            for _ in 0..random.below(4) {
+                record(random, &mut bytes);
+            }
+            let keep = random.below(bytes.len() as u32 + 1) as usize;
+            if random.once_in(2) {
+                bytes.truncate(keep);
+            }
+            bytes
+        }
+        // bytes that a kind or a number could be
+        _ => {
+            (0..random.below(9)).map(|_| random.pick(&[0, 1, 2, 3, 4, 5, 0x33, 0x45, 0x80, 0xFF, 0x0F, 0x10])).collect()
+        }
+    }
+}
+
+/// A bench at work for so long that the recording is near the limit.
+fn long(random: &mut Random) -> Vec<u8> {
+    let length = match random.below(8) {
+        0..=2 => LONGEST,
+        3 => LONGEST - random.below(4) as usize,
+        4..=6 => LONGEST + random.within(1, 4) as usize,
+        _ => random.within(20_000, 70_000) as usize,
+    };
+    let mut bytes = Simulation::new(random.word()).run(length - 32);
+    if random.once_in(4) {
+        // cut wherever it is
+        bytes.truncate(length);
+        return bytes;
+    }
+    fill(&mut bytes, length);
+    bytes
+}
+
+/// Fills up to the length with ticks of two or three bytes; the bytes must be at least two short of it, or have it.
+pub fn fill(bytes: &mut Vec<u8>, length: usize) {
+    while bytes.len() < length {
+        let ms = if (length - bytes.len()) % 2 == 1 { 1_000 } else { 1 };
+        recording::write(recording::TICK, &[ms], bytes);
+    }
+}
+
+#[cfg(test)]
+mod tests {
+    use super::*;
+
+    #[test]
+    fn the_same_seed_makes_the_same_recording() {
+        for index in 0..200 {
+            assert_eq!(recording(1, index), recording(1, index));
+        }
+        assert_ne!(recording(1, 0), recording(2, 0));
+    }
+
+    #[test]
+    fn a_bench_at_work_makes_good_recordings() {
+        for index in (0..500).filter(|&i| Family::of(i) == Family::Plausible) {
+            let (_, bytes) = recording(7, index);
+            let bench = crate::replay::replay(&bytes).unwrap();
+            assert!(bench.dispenser.account().upper.balances() && bench.dispenser.account().lower.balances());
+        }
+    }
+
+    #[test]
+    fn filled_to_the_byte() {
+        for start in 0..8 {
+            let mut bytes = vec![2; start];
+            fill(&mut bytes, 11);
+            assert_eq!(bytes.len(), 11);
+        }
+    }
+}

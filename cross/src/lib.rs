@@ -1,0 +1,32 @@
+//! The replay of document 01 a second time, in Rust, written from the document and not from the crates beside it: what a
+//! recording holds, what both sessions make of it, and the report. Around it stands what compares the two: recordings made
+//! from a seed, a count of what they reached, and a search for the shortest recording that shows a difference.
+//!
+//! The names in quotation marks are document 01's sections.
+
+// "Recording and report"
+pub mod number;
+pub mod recording;
+pub mod replay;
+pub mod report;
+
+// "Dispenser frames", "The dispenser session", "The account"
+pub mod account;
+pub mod dispenser;
+pub mod dispenser_frame;
+
+// "CCNET frames", "The validator session"
+pub mod ccnet_frame;
+pub mod validator;
+
+// Recordings to try: written as text, simulated, made from a seed.
+pub mod bench;
+pub mod generate;
+pub mod random;
+pub mod text;
+
+// The comparison and the timing.
+pub mod loads;
+pub mod other;
+pub mod reach;
+pub mod shrink;

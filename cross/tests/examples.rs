@@ -1,0 +1,23 @@
+//! The example recordings of the product: each is what its text describes, and its report is the one it must give.
+
+use cross::{report::report, text};
+use std::fs;
+use std::path::Path;
+
+#[test]
+fn every_example_gives_its_report() {
+    let folder = Path::new(env!("CARGO_MANIFEST_DIR")).join("../crates/regression/data");
+    let mut examples = 0;
+    for entry in fs::read_dir(folder).expect("the examples") {
+        let path = entry.expect("an example").path();
+        if path.extension().is_some_and(|end| end == "txt") {
+            let said = fs::read_to_string(&path).expect("a text");
+            let recording = fs::read(path.with_extension("rec")).expect("its recording");
+            let wanted = fs::read_to_string(path.with_extension("report")).expect("its report");
+            assert_eq!(text::recording(&said).as_ref(), Ok(&recording), "{}", path.display());
+            assert_eq!(report(&recording), wanted, "{}", path.display());
+            examples += 1;
+        }
+    }
+    assert!(examples >= 12, "only {examples} examples");
+}
