@@ -3,3 +3,5 @@ pub mod Lines
 pub mod Steps
 pub mod Loops
 pub mod Tied
+pub mod Recorded
+pub mod Enough

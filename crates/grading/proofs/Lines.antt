@@ -43,11 +43,11 @@ pub type-seen : (y : ℕ) (n : Bills) → (n .0 ≡ 0 → ⊥) → lines (typeLi
 unfolding typeLine
 type-seen y n e = rw (ne-eqb (n .0) 0 e) (lines-one (field "type " y ++ field " bills " (n .0)))
 
-types-nil : (k : ℕ) → typeLines k [] ≡ []
+pub types-nil : (k : ℕ) → typeLines k [] ≡ []
 unfolding typeLines
 types-nil k = refl
 
-types-cons : (k : ℕ) (n : Bills) (ns : List Bills) → typeLines k (n ∷ ns) ≡ typeLine k n ++ typeLines (suc k) ns
+pub types-cons : (k : ℕ) (n : Bills) (ns : List Bills) → typeLines k (n ∷ ns) ≡ typeLine k n ++ typeLines (suc k) ns
 unfolding typeLines
 types-cons k n ns = refl
 

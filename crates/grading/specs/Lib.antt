@@ -2,3 +2,4 @@
 pub mod Replay
 pub mod Text
 pub mod Report
+pub mod Promises

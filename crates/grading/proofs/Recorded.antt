@@ -1,0 +1,108 @@
+-- The sessions after a replay are those that the recording's calls lead to, so that what holds after any calls at all holds of what is reported.
+-- Assumes nothing.
+use Prim.Native.Nat.{ℕ, suc, _+_}
+use mathlib.Core.Path.{_≡_, refl, sym, ap, _∙_, subst}
+use mathlib.Core.Bool.{Bool, true, false, cond}
+use mathlib.Core.List.{List, [], _∷_, _++_}
+use native.Mathlib.Omega.{arith}
+use lib.ListN.{length}
+use Rattle.dispenser.specs.Session.{freshSession}
+use Rattle.dispenser.specs.Calls.{run as ran}
+use Rattle.dispenser.specs.History.{model2000T, history, cassette, Shows}
+use Rattle.dispenser.proofs.Tracks.{demand3}
+use Rattle.dispenser.specs.declared.session.Session.{Session}
+use Rattle.ledger.specs.Account.{sums}
+use Rattle.validator.specs.Limits.{types}
+use Rattle.validator.specs.Session.{freshSession as freshToo}
+use Rattle.validator.specs.Calls.{Call as CallToo, reached, past}
+use Rattle.validator.specs.declared.session.Session.{Session as SessionToo}
+use Rattle.validator.proofs.Agreeing.{bills-told}
+use Rattle.recording.specs.Record.{AllInRange}
+use Rattle.recording.specs.Reading.{records, readRecording}
+use Rattle.recording.specs.declared.Record.{Record}
+use Rattle.recording.specs.declared.Record.the-variants.{Request, DispenserByte, Tick, ValidatorByte, Command}
+use Rattle.grading.specs.Replay.{Desk, freshDesk, given, run, told, replayed, replayOf}
+use Rattle.grading.specs.Promises.{calls, callsToo, refuses, refusals, Recorded, AsRecorded}
+use Rattle.grading.specs.declared.desk.Findings.{Findings}
+
+pub dispenser-ran : (d : Desk) (xs : List Record) → run d xs .dispenser ≡ ran (d .dispenser) (calls d xs)
+unfolding run calls ran
+dispenser-ran d [] = refl
+dispenser-ran d (Request code upper lower ∷ xs) = dispenser-ran (given d (Request code upper lower)) xs
+dispenser-ran d (DispenserByte b ∷ xs) = dispenser-ran (given d (DispenserByte b)) xs
+dispenser-ran d (Tick ms ∷ xs) = dispenser-ran (given d (Tick ms)) xs
+dispenser-ran d (ValidatorByte b ∷ xs) = dispenser-ran (given d (ValidatorByte b)) xs
+dispenser-ran d (Command code ∷ xs) = dispenser-ran (given d (Command code)) xs
+
+pub validator-ran : (cs : List CallToo) (d : Desk) (xs : List Record) (i : AllInRange xs) → d .validator ≡ reached cs
+    → run d xs .validator ≡ reached (callsToo cs d xs i)
+unfolding run callsToo reached
+validator-ran cs d [] i e = e
+validator-ran cs d (Request code upper lower ∷ xs) i e = validator-ran cs (given d (Request code upper lower)) xs (i .1) e
+validator-ran cs d (DispenserByte b ∷ xs) i e = validator-ran cs (given d (DispenserByte b)) xs (i .1) e
+validator-ran cs d (Tick ms ∷ xs) i e = validator-ran _ (given d (Tick ms)) xs (i .1) (rw e)
+validator-ran cs d (ValidatorByte b ∷ xs) i e = validator-ran _ (given d (ValidatorByte b)) xs (i .1) (rw e)
+validator-ran cs d (Command code ∷ xs) i e = validator-ran _ (given d (Command code)) xs (i .1) (rw e)
+
+-- ---- counts
+
+one-more : (t : Bool) (n m : ℕ) → cond t (n + 1) n + m ≡ n + (cond t 1 0 + m)
+one-more true n m = omega arith
+one-more false n m = omega arith
+
+given-declined : (d : Desk) (x : Record) → given d x .declined ≡ cond (refuses d x) (d .declined + 1) (d .declined)
+given-declined d (Request code upper lower) = refl
+given-declined d (DispenserByte b) = refl
+given-declined d (Tick ms) = refl
+given-declined d (ValidatorByte b) = refl
+given-declined d (Command code) = refl
+
+given-records : (d : Desk) (x : Record) → given d x .records ≡ d .records + 1
+given-records d (Request code upper lower) = refl
+given-records d (DispenserByte b) = refl
+given-records d (Tick ms) = refl
+given-records d (ValidatorByte b) = refl
+given-records d (Command code) = refl
+
+pub declined-ran : (d : Desk) (xs : List Record) → run d xs .declined ≡ d .declined + refusals d xs
+unfolding run refusals
+declined-ran d [] = omega arith
+declined-ran d (x ∷ xs) =
+    declined-ran (given d x) xs ∙ ap (λ (n : ℕ). n + refusals (given d x) xs) (given-declined d x) ∙ one-more (refuses d x) (d .declined) (refusals (given d x) xs)
+
+pub records-ran : (d : Desk) (xs : List Record) → run d xs .records ≡ d .records + length xs
+unfolding run
+records-ran d [] = omega arith
+records-ran d (x ∷ xs) = omega (arith, records-ran (given d x) xs, given-records d x)
+
+-- ---- a good recording
+
+pub good-replay : (s : List ℕ) (xs : List Record) → readRecording s ≡ records xs → replayOf s ≡ told (run freshDesk xs)
+unfolding replayOf
+good-replay s xs e = ap (replayed freshDesk) e
+
+fresh-parts : (freshDesk .dispenser ≡ freshSession) × (freshDesk .validator ≡ reached [])
+unfolding freshDesk reached
+fresh-parts = (refl, refl)
+
+fresh-counts : (freshDesk .declined ≡ 0) × (freshDesk .records ≡ 0)
+unfolding freshDesk
+fresh-counts = (refl, refl)
+
+pub session-ran : (xs : List Record) → run freshDesk xs .dispenser ≡ ran freshSession (calls freshDesk xs)
+session-ran xs = dispenser-ran freshDesk xs ∙ ap (λ (s : Session). ran s (calls freshDesk xs)) (fresh-parts .0)
+
+pub as-recorded : AsRecorded
+as-recorded s xs e i =
+    let g = good-replay s xs e in
+    record {
+      account = λ c.
+          subst (λ (f : Findings). Shows (cassette (f .account) c) (sums model2000T (history (calls freshDesk xs)) c)) (sym g)
+          (subst (λ (w : Session). Shows (cassette (w .account) c) (sums model2000T (history (calls freshDesk xs)) c)) (sym (session-ran xs))
+          (demand3 .account (calls freshDesk xs) c));
+      balance = demand3 .balance (calls freshDesk xs);
+      bills-told = λ y l.
+          rw (g, validator-ran [] freshDesk xs i (fresh-parts .1)) (bills-told (callsToo [] freshDesk xs i) y l);
+      declined = ap (λ (f : Findings). f .declined) g ∙ declined-ran freshDesk xs ∙ omega (arith, fresh-counts .0);
+      all = ap (λ (f : Findings). f .records) g ∙ records-ran freshDesk xs ∙ omega (arith, fresh-counts .1);
+    }

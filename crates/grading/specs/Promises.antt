@@ -1,0 +1,89 @@
+-- What is promised of a replay and its report: the calls that a recording makes on each session, and what their history gives. Proved in
+-- proofs/Recorded.antt and proofs/Enough.antt.
+use Prim.Native.Nat.{ℕ, _+_, _≤_, _<_}
+use mathlib.Core.Path.{_≡_}
+use mathlib.Core.Bool.{Bool, cond, _||_}
+use mathlib.Core.List.{List, [], _∷_, _++_}
+use native.Mathlib.Omega.{arith}
+use lib.ListN.{length, getD}
+use Rattle.numbers.specs.Promises.{Bytes}
+use Rattle.ledger.specs.Account.{Balanced, sums}
+use Rattle.dispenser_frame.specs.declared.answer.Cassette.{Cassette}
+use Rattle.dispenser.specs.Session.{freshSession, sessionRequest, sessionByte, sessionTick}
+use Rattle.dispenser.specs.Calls.{Call, request, byte, tick, run as ran}
+use Rattle.dispenser.specs.History.{model2000T, history, cassette, Shows}
+use Rattle.validator.specs.Limits.{types}
+use Rattle.validator.specs.Bills.{bills}
+use Rattle.validator.specs.Session.{sessionRequest as requestToo, sessionByte as byteToo, sessionTick as tickToo}
+use Rattle.validator.specs.Calls.{Call as CallToo, request as asksToo, byte as hearsToo, tick as waitsToo, reached, past}
+use Rattle.validator.specs.History.{counted}
+use Rattle.recording.specs.Record.{InRange, AllInRange}
+use Rattle.recording.specs.Reading.{records, readRecording}
+use Rattle.recording.specs.declared.Record.{Record}
+use Rattle.recording.specs.declared.Record.the-variants.{Request, DispenserByte, Tick, ValidatorByte, Command}
+use Rattle.grading.specs.Text.{longest}
+use Rattle.grading.specs.Replay.{Desk, freshDesk, declines, declinesToo, given, run, replayOf}
+use Rattle.grading.specs.Report.{reportOf}
+
+-- ---- the calls that records make
+
+-- on the dispenser session, the oldest first, each with the room as the last one left it
+abbrev pub callOf : Desk → Record → List Call
+callOf d (Request code upper lower) = request code upper lower (d .room) ∷ []
+callOf d (DispenserByte b) = byte b (d .room) ∷ []
+callOf d (Tick ms) = tick ms (d .room) ∷ []
+callOf d (ValidatorByte b) = []
+callOf d (Command code) = []
+
+unfoldable pub calls : Desk → List Record → List Call
+calls d [] = []
+calls d (x ∷ xs) = callOf d x ++ calls (given d x) xs
+
+-- on the validator session, behind those made before, the newest first
+pub small : (b : ℕ) → b ≤ 255 → b < 256
+small b h = omega arith
+
+abbrev pub callToo : (d : Desk) (x : Record) → InRange x → List CallToo
+callToo d (Request code upper lower) i = []
+callToo d (DispenserByte b) i = []
+callToo d (Tick ms) i = waitsToo ms (d .wide) ∷ []
+callToo d (ValidatorByte b) i = hearsToo b (small b (i .1)) (d .wide) ∷ []
+callToo d (Command code) i = asksToo code [] (d .wide) ∷ []
+
+unfoldable pub callsToo : List CallToo → Desk → (xs : List Record) → AllInRange xs → List CallToo
+callsToo cs d [] i = cs
+callsToo cs d (x ∷ xs) i = callsToo (callToo d x (i .0) ++ cs) (given d x) xs (i .1)
+
+-- ---- the records that a session refused
+
+abbrev pub refuses : Desk → Record → Bool
+refuses d (Request code upper lower) = declines (sessionRequest (d .dispenser) code upper lower (d .room) .reply)
+refuses d (DispenserByte b) = declines (sessionByte (d .dispenser) b (d .room) .reply)
+refuses d (Tick ms) = declines (sessionTick (d .dispenser) ms (d .room) .reply) || declinesToo (tickToo (d .validator) ms (d .wide) .reply)
+refuses d (ValidatorByte b) = declinesToo (byteToo (d .validator) b (d .wide) .reply)
+refuses d (Command code) = declinesToo (requestToo (d .validator) code [] (d .wide) .reply)
+
+unfoldable pub refusals : Desk → List Record → ℕ
+refusals d [] = 0
+refusals d (x ∷ xs) = cond (refuses d x) 1 0 + refusals (given d x) xs
+
+-- ---- what the report tells of a good recording with the records xs
+
+pub record Recorded (s : List ℕ) (xs : List Record) (i : AllInRange xs) : Type 0 where
+  -- the sums are those of demand 3, for the calls that the recording makes, and they balance
+  pub account : (c : Cassette) → Shows (cassette (replayOf s .account) c) (sums model2000T (history (calls freshDesk xs)) c)
+  pub balance : (c : Cassette) → Balanced (sums model2000T (history (calls freshDesk xs)) c)
+  -- the bills are those of the validator's history
+  pub bills-told : (y : ℕ) → y < types → getD (replayOf s .bills) y (bills 0) .0 ≡ counted y (past (callsToo [] freshDesk xs i))
+  -- declined is the number of records that a session refused, and records counts them all
+  pub declined : replayOf s .declined ≡ refusals freshDesk xs
+  pub all : replayOf s .records ≡ length xs
+
+abbrev pub AsRecorded : Type 0
+AsRecorded = (s : List ℕ) (xs : List Record) → readRecording s ≡ records xs → (i : AllInRange xs) → Recorded s xs i
+
+-- ---- the longest report
+
+-- a room of so many bytes is enough for the report of any recording
+abbrev pub Enough : Type 0
+Enough = (s : List ℕ) → Bytes s → length (reportOf s) ≤ longest
