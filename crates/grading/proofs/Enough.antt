@@ -20,9 +20,8 @@ use Rattle.dispenser.proofs.Keeping.{never-cut}
 use Rattle.validator.specs.Limits.{types}
 use Rattle.validator.specs.Bills.{bills, bookedBy, noBills, plus}
 use Rattle.validator.specs.Session.{freshSession as freshToo, sessionRequest as requestToo, sessionByte as byteToo, sessionTick as tickToo, byteStep, tickStep}
-use Rattle.validator.specs.Calls.{past}
 use Rattle.validator.specs.declared.bills.Bills.{Bills}
-use Rattle.validator.proofs.Agreeing.{bills-few}
+use Rattle.validator.proofs.Agreeing.{kept-by-history}
 use Rattle.recording.specs.Record.{mostBytes, faultNumber, recordBytes, laid, AllInRange}
 use Rattle.recording.specs.Reading.{Reading, records, bad, readRecording}
 use Rattle.recording.specs.Promises.{Breaks}
@@ -185,7 +184,7 @@ good-enough s xs h e =
     let n : length xs ≤ 65_536 = omega (arith, w .0, laid-many xs, ap length (w .2)) in
     let c = session-ran xs in
     let b : (k : ℕ) → k < 24 → getD (run freshDesk xs .validator .bills) k (bills 0) .0 < end32
-    = λ k l. omega (arith, sym (ap (λ (f : Findings). getD (f .bills) k (bills 0) .0) (good-replay s xs e)) ∙ r .bills-told k l, bills-few (callsToo [] freshDesk xs (w .1)) k l) in
+    = λ k l. omega (arith, sym (ap (λ (f : Findings). getD (f .bills) k (bills 0) .0) (good-replay s xs e)) ∙ r .bills-told k l, kept-by-history .few (callsToo freshDesk xs (w .1)) k l) in
     rw (good-replay s xs e)
     (good-most (run freshDesk xs .dispenser .account) (run freshDesk xs .validator .bills) (run freshDesk xs .declined) (run freshDesk xs .records)
     (subst (λ (y : Session). Few (y .account .upper)) (sym c) (bounded-few (ran freshSession (calls freshDesk xs) .account .upper) (cut .0)))

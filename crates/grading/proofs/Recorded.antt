@@ -1,22 +1,20 @@
 -- The sessions after a replay are those that the recording's calls lead to, so that what holds after any calls at all holds of what is reported.
 -- Assumes nothing.
 use Prim.Native.Nat.{ℕ, suc, _+_}
-use mathlib.Core.Path.{_≡_, refl, sym, ap, _∙_, subst}
+use mathlib.Core.Path.{_≡_, refl, ap, _∙_}
 use mathlib.Core.Bool.{Bool, true, false, cond}
 use mathlib.Core.List.{List, [], _∷_, _++_}
 use native.Mathlib.Omega.{arith}
 use lib.ListN.{length}
 use Rattle.dispenser.specs.Session.{freshSession}
 use Rattle.dispenser.specs.Calls.{run as ran}
-use Rattle.dispenser.specs.History.{model2000T, history, cassette, Shows}
-use Rattle.dispenser.proofs.Tracks.{demand3}
+use Rattle.dispenser.specs.History.{cassette, plain}
+use Rattle.dispenser.proofs.Demand3.{demand3}
 use Rattle.dispenser.specs.declared.session.Session.{Session}
-use Rattle.ledger.specs.Account.{sums}
-use Rattle.validator.specs.Limits.{types}
 use Rattle.validator.specs.Session.{freshSession as freshToo}
-use Rattle.validator.specs.Calls.{Call as CallToo, reached, past}
+use Rattle.validator.specs.Calls.{run as ranToo}
 use Rattle.validator.specs.declared.session.Session.{Session as SessionToo}
-use Rattle.validator.proofs.Agreeing.{bills-told}
+use Rattle.validator.proofs.Agreeing.{kept-by-history}
 use Rattle.recording.specs.Record.{AllInRange}
 use Rattle.recording.specs.Reading.{records, readRecording}
 use Rattle.recording.specs.declared.Record.{Record}
@@ -34,15 +32,14 @@ dispenser-ran d (Tick ms ∷ xs) = dispenser-ran (given d (Tick ms)) xs
 dispenser-ran d (ValidatorByte b ∷ xs) = dispenser-ran (given d (ValidatorByte b)) xs
 dispenser-ran d (Command code ∷ xs) = dispenser-ran (given d (Command code)) xs
 
-pub validator-ran : (cs : List CallToo) (d : Desk) (xs : List Record) (i : AllInRange xs) → d .validator ≡ reached cs
-    → run d xs .validator ≡ reached (callsToo cs d xs i)
-unfolding run callsToo reached
-validator-ran cs d [] i e = e
-validator-ran cs d (Request code upper lower ∷ xs) i e = validator-ran cs (given d (Request code upper lower)) xs (i .1) e
-validator-ran cs d (DispenserByte b ∷ xs) i e = validator-ran cs (given d (DispenserByte b)) xs (i .1) e
-validator-ran cs d (Tick ms ∷ xs) i e = validator-ran _ (given d (Tick ms)) xs (i .1) (rw e)
-validator-ran cs d (ValidatorByte b ∷ xs) i e = validator-ran _ (given d (ValidatorByte b)) xs (i .1) (rw e)
-validator-ran cs d (Command code ∷ xs) i e = validator-ran _ (given d (Command code)) xs (i .1) (rw e)
+pub validator-ran : (d : Desk) (xs : List Record) (i : AllInRange xs) → run d xs .validator ≡ ranToo (d .validator) (callsToo d xs i)
+unfolding run callsToo ranToo
+validator-ran d [] i = refl
+validator-ran d (Request code upper lower ∷ xs) i = validator-ran (given d (Request code upper lower)) xs (i .1)
+validator-ran d (DispenserByte b ∷ xs) i = validator-ran (given d (DispenserByte b)) xs (i .1)
+validator-ran d (Tick ms ∷ xs) i = validator-ran (given d (Tick ms)) xs (i .1)
+validator-ran d (ValidatorByte b ∷ xs) i = validator-ran (given d (ValidatorByte b)) xs (i .1)
+validator-ran d (Command code ∷ xs) i = validator-ran (given d (Command code)) xs (i .1)
 
 -- ---- counts
 
@@ -81,8 +78,8 @@ pub good-replay : (s : List ℕ) (xs : List Record) → readRecording s ≡ reco
 unfolding replayOf
 good-replay s xs e = ap (replayed freshDesk) e
 
-fresh-parts : (freshDesk .dispenser ≡ freshSession) × (freshDesk .validator ≡ reached [])
-unfolding freshDesk reached
+fresh-parts : (freshDesk .dispenser ≡ freshSession) × (freshDesk .validator ≡ freshToo)
+unfolding freshDesk
 fresh-parts = (refl, refl)
 
 fresh-counts : (freshDesk .declined ≡ 0) × (freshDesk .records ≡ 0)
@@ -92,17 +89,19 @@ fresh-counts = (refl, refl)
 pub session-ran : (xs : List Record) → run freshDesk xs .dispenser ≡ ran freshSession (calls freshDesk xs)
 session-ran xs = dispenser-ran freshDesk xs ∙ ap (λ (s : Session). ran s (calls freshDesk xs)) (fresh-parts .0)
 
+pub session-too : (xs : List Record) (i : AllInRange xs) → run freshDesk xs .validator ≡ ranToo freshToo (callsToo freshDesk xs i)
+session-too xs i = validator-ran freshDesk xs i ∙ ap (λ (s : SessionToo). ranToo s (callsToo freshDesk xs i)) (fresh-parts .1)
+
 pub as-recorded : AsRecorded
 as-recorded s xs e i =
     let g = good-replay s xs e in
     record {
       account = λ c.
-          subst (λ (f : Findings). Shows (cassette (f .account) c) (sums model2000T (history (calls freshDesk xs)) c)) (sym g)
-          (subst (λ (w : Session). Shows (cassette (w .account) c) (sums model2000T (history (calls freshDesk xs)) c)) (sym (session-ran xs))
-          (demand3 .account (calls freshDesk xs) c));
+          ap (λ (f : Findings). plain (cassette (f .account) c)) g
+          ∙ ap (λ (w : Session). plain (cassette (w .account) c)) (session-ran xs)
+          ∙ demand3 .account (calls freshDesk xs) c;
       balance = demand3 .balance (calls freshDesk xs);
-      bills-told = λ y l.
-          rw (g, validator-ran [] freshDesk xs i (fresh-parts .1)) (bills-told (callsToo [] freshDesk xs i) y l);
+      bills-told = λ y l. rw (g, session-too xs i) (kept-by-history .bills (callsToo freshDesk xs i) y l);
       declined = ap (λ (f : Findings). f .declined) g ∙ declined-ran freshDesk xs ∙ omega (arith, fresh-counts .0);
       all = ap (λ (f : Findings). f .records) g ∙ records-ran freshDesk xs ∙ omega (arith, fresh-counts .1);
     }

@@ -9,20 +9,20 @@ use lib.ListN.{length, getD}
 use Rattle.numbers.specs.Promises.{Bytes}
 use Rattle.ledger.specs.Account.{Balanced, sums}
 use Rattle.dispenser_frame.specs.declared.answer.Cassette.{Cassette}
-use Rattle.dispenser.specs.Session.{freshSession, sessionRequest, sessionByte, sessionTick}
-use Rattle.dispenser.specs.Calls.{Call, request, byte, tick, run as ran}
-use Rattle.dispenser.specs.History.{model2000T, history, cassette, Shows}
+use Rattle.dispenser.specs.Session.{sessionRequest, sessionByte, sessionTick}
+use Rattle.dispenser.specs.Calls.{Call, request, byte, tick}
+use Rattle.dispenser.specs.History.{model2000T, history, cassette, plain}
 use Rattle.validator.specs.Limits.{types}
 use Rattle.validator.specs.Bills.{bills}
 use Rattle.validator.specs.Session.{sessionRequest as requestToo, sessionByte as byteToo, sessionTick as tickToo}
-use Rattle.validator.specs.Calls.{Call as CallToo, request as asksToo, byte as hearsToo, tick as waitsToo, reached, past}
-use Rattle.validator.specs.History.{counted}
+use Rattle.validator.specs.Calls.{Call as CallToo, request as asksToo, byte as hearsToo, tick as waitsToo}
+use Rattle.validator.specs.History.{history as historyToo, counted}
 use Rattle.recording.specs.Record.{InRange, AllInRange}
 use Rattle.recording.specs.Reading.{records, readRecording}
 use Rattle.recording.specs.declared.Record.{Record}
 use Rattle.recording.specs.declared.Record.the-variants.{Request, DispenserByte, Tick, ValidatorByte, Command}
 use Rattle.grading.specs.Text.{longest}
-use Rattle.grading.specs.Replay.{Desk, freshDesk, declines, declinesToo, given, run, replayOf}
+use Rattle.grading.specs.Replay.{Desk, freshDesk, declines, declinesToo, given, replayOf}
 use Rattle.grading.specs.Report.{reportOf}
 
 -- ---- the calls that records make
@@ -39,7 +39,7 @@ unfoldable pub calls : Desk → List Record → List Call
 calls d [] = []
 calls d (x ∷ xs) = callOf d x ++ calls (given d x) xs
 
--- on the validator session, behind those made before, the newest first
+-- on the validator session
 pub small : (b : ℕ) → b ≤ 255 → b < 256
 small b h = omega arith
 
@@ -50,9 +50,9 @@ callToo d (Tick ms) i = waitsToo ms (d .wide) ∷ []
 callToo d (ValidatorByte b) i = hearsToo b (small b (i .1)) (d .wide) ∷ []
 callToo d (Command code) i = asksToo code [] (d .wide) ∷ []
 
-unfoldable pub callsToo : List CallToo → Desk → (xs : List Record) → AllInRange xs → List CallToo
-callsToo cs d [] i = cs
-callsToo cs d (x ∷ xs) i = callsToo (callToo d x (i .0) ++ cs) (given d x) xs (i .1)
+unfoldable pub callsToo : Desk → (xs : List Record) → AllInRange xs → List CallToo
+callsToo d [] i = []
+callsToo d (x ∷ xs) i = callToo d x (i .0) ++ callsToo (given d x) xs (i .1)
 
 -- ---- the records that a session refused
 
@@ -71,10 +71,10 @@ refusals d (x ∷ xs) = cond (refuses d x) 1 0 + refusals (given d x) xs
 
 pub record Recorded (s : List ℕ) (xs : List Record) (i : AllInRange xs) : Type 0 where
   -- the sums are those of demand 3, for the calls that the recording makes, and they balance
-  pub account : (c : Cassette) → Shows (cassette (replayOf s .account) c) (sums model2000T (history (calls freshDesk xs)) c)
+  pub account : (c : Cassette) → plain (cassette (replayOf s .account) c) ≡ sums model2000T (history (calls freshDesk xs)) c
   pub balance : (c : Cassette) → Balanced (sums model2000T (history (calls freshDesk xs)) c)
   -- the bills are those of the validator's history
-  pub bills-told : (y : ℕ) → y < types → getD (replayOf s .bills) y (bills 0) .0 ≡ counted y (past (callsToo [] freshDesk xs i))
+  pub bills-told : (y : ℕ) → y < types → getD (replayOf s .bills) y (bills 0) .0 ≡ counted y (historyToo (callsToo freshDesk xs i))
   -- declined is the number of records that a session refused, and records counts them all
   pub declined : replayOf s .declined ≡ refusals freshDesk xs
   pub all : replayOf s .records ≡ length xs
