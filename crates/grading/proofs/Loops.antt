@@ -5,9 +5,12 @@ use mathlib.Core.Bool.{Bool, true, false, cond, _||_}
 use mathlib.Core.List.{List, [], _∷_}
 use native.Mathlib.Omega.{arith}
 use lib.ListN.{length, drop, getD}
+use borrow.Author.Tests.{le-ltb}
 use Rattle.dispenser.specs.declared.account.Account.{Account}
 use Rattle.dispenser.specs.Session.{sessionRequest, sessionByte, sessionTick}
 use Rattle.validator.specs.Session.{sessionRequest as requestToo, sessionByte as byteToo, sessionTick as tickToo}
+use Rattle.validator.specs.Limits.{types}
+use Rattle.validator.specs.Bills.{bookedBy}
 use Rattle.validator.specs.declared.bills.Bills.{Bills}
 use Rattle.recording.specs.Record.{mostBytes}
 use Rattle.recording.specs.Reading.{Reading, records, bad, freshReader, readByte, ended, endedIn, also, went, closing, readingFrom, readRecording}
@@ -108,6 +111,11 @@ counts d d′ x e =
 pub joins : (r : Run) {a b : Account} {bs cs : List Bills} (store second room wide : List ℕ) → a ≡ b → bs ≡ cs
     → joined r a bs store second room wide ≡ joined r b cs store second room wide
 joins r store second room wide e f = ap₂ (λ x y. joined r x y store second room wide) e f
+
+-- a record that credits no bill leaves the bills as they were
+pub no-bill : (bs : List Bills) (y : ℕ) → types ≤ y → bs ≡ bookedBy bs y
+unfolding bookedBy
+no-bill bs y h = rw (le-ltb y types h)
 
 -- ---- the start
 

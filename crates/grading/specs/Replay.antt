@@ -6,6 +6,7 @@ use lib.ListN.{replicate}
 use Rattle.dispenser.specs.Account.{freshAccount}
 use Rattle.dispenser.specs.Session.{After, bookedBy, requestBooked, freshSession, sessionRequest, sessionByte, sessionTick}
 use Rattle.dispenser.specs.declared.account.Account.{Account}
+use Rattle.dispenser.specs.declared.exchange.Line.{Line}
 use Rattle.dispenser.specs.declared.session.Asked.{Asked}
 use Rattle.dispenser.specs.declared.session.Reply.{Reply}
 use Rattle.dispenser.specs.declared.session.Reply.the-variants.{Refused, Done}
@@ -13,6 +14,7 @@ use Rattle.dispenser.specs.declared.session.Session.{Session}
 use Rattle.validator.specs.Bills.{noBills}
 use Rattle.validator.specs.Session.{After as AfterToo, freshSession as freshToo, sessionRequest as requestToo, sessionByte as byteToo, sessionTick as tickToo}
 use Rattle.validator.specs.declared.bills.Bills.{Bills}
+use Rattle.validator.specs.declared.line.Line.{Line as LineToo}
 use Rattle.validator.specs.declared.session.Reply.{Reply as ReplyToo}
 use Rattle.validator.specs.declared.session.Reply.the-variants.{Refused as RefusedToo, Done as DoneToo}
 use Rattle.validator.specs.declared.session.Session.{Session as SessionToo}
@@ -102,6 +104,10 @@ unfoldable pub replayOf : List ℕ → Findings
 replayOf s = replayed freshDesk (readRecording s)
 
 -- ---- the same, where the parts of the sessions are kept apart
+
+-- what changes with each record
+abbrev pub runOf : Line → Asked → LineToo → ℕ → ℕ → Run
+runOf line asked other declined all = record { line = line; asked = asked; other = other; declined = declined; records = all }
 
 -- what a record books in the account
 abbrev pub entered : Account → Asked → Entry → Account

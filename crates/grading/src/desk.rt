@@ -8,7 +8,7 @@ ghost use Rattle.dispenser.specs.declared.account.Account.{Account};
 ghost use Rattle.validator.specs.Bills.{bookedBy};
 ghost use Rattle.validator.specs.declared.bills.Bills.{Bills};
 ghost use Rattle.recording.specs.declared.Record.the-variants.{Request, DispenserByte, Tick, ValidatorByte, Command};
-ghost use Rattle.grading.specs.Replay.{declines, declinesToo, entered, joined, given, badFindings, replayOf};
+ghost use Rattle.grading.specs.Replay.{declines, declinesToo, runOf, entered, joined, given, badFindings, replayOf};
 use dispenser::Account;
 use dispenser::Asked;
 use recording::Fault;
@@ -40,6 +40,48 @@ pub(crate) struct Run {
     pub other: validator::Line,
     pub declined: u64,
     pub records: u64,
+}
+
+// The parts, field by field. Moved whole, a struct with an enum in it is copied through memory for every record.
+fn assembled(
+    line: dispenser::Line,
+    asked: Asked,
+    other: validator::Line,
+    declined: u64,
+    records: u64,
+) -> Run
+    ensures { λ r. ⌜ r ≡ runOf line asked other declined records ⌝ }
+{
+    let phase = line.phase;
+    let stand = other.phase;
+    Run {
+        line: dispenser::Line {
+            left: line.left,
+            need: line.need,
+            accepted: line.accepted,
+            handed: line.handed,
+            naks: line.naks,
+            got: line.got,
+            phase,
+        },
+        asked: Asked {
+            code: asked.code,
+            upper: asked.upper,
+            lower: asked.lower,
+            want: asked.want,
+        },
+        other: validator::Line {
+            left: other.left,
+            accepted: other.accepted,
+            code: other.code,
+            last: other.last,
+            got: other.got,
+            want: other.want,
+            phase: stand,
+        },
+        declined,
+        records,
+    }
 }
 
 // What a record books in the account: nothing, what a request answered, or what a byte or a tick did.
@@ -112,14 +154,9 @@ fn requested(run: Run, code: u8, upper: u32, lower: u32, room: &mut [u8; 16]) ->
     let new = step.asked;
     let reply = step.reply;
     let declined = counted(run.declined, is_declined(reply));
+    let records = run.records + 1;
     Moved {
-        run: Run {
-            line: next,
-            asked: new,
-            other,
-            declined,
-            records: run.records + 1,
-        },
+        run: assembled(next, new, other, declined, records),
         entry: Entry::Asked(reply),
         bill: validator::Session::TYPES,
     }
@@ -138,14 +175,9 @@ fn dispenser_byte(run: Run, store: &mut [u8; 21], b: u8, room: &mut [u8; 16]) ->
     let next = step.line;
     let reply = step.reply;
     let declined = counted(run.declined, is_declined(reply));
+    let records = run.records + 1;
     Moved {
-        run: Run {
-            line: next,
-            asked,
-            other,
-            declined,
-            records: run.records + 1,
-        },
+        run: assembled(next, asked, other, declined, records),
         entry: Entry::Heard(reply),
         bill: validator::Session::TYPES,
     }
@@ -175,14 +207,9 @@ fn ticked(
     let bill = too.bill;
     let refused = either(is_declined(reply), is_declined_too(said));
     let declined = counted(run.declined, refused);
+    let records = run.records + 1;
     Moved {
-        run: Run {
-            line: next,
-            asked,
-            other: following,
-            declined,
-            records: run.records + 1,
-        },
+        run: assembled(next, asked, following, declined, records),
         entry: Entry::Heard(reply),
         bill,
     }
@@ -202,14 +229,9 @@ fn validator_byte(run: Run, second: &mut [u8; 255], b: u8, wide: &mut [u8; 255])
     let reply = step.reply;
     let bill = step.bill;
     let declined = counted(run.declined, is_declined_too(reply));
+    let records = run.records + 1;
     Moved {
-        run: Run {
-            line,
-            asked,
-            other: next,
-            declined,
-            records: run.records + 1,
-        },
+        run: assembled(line, asked, next, declined, records),
         entry: Entry::Nothing,
         bill,
     }
@@ -228,14 +250,9 @@ fn commanded(run: Run, code: u8, wide: &mut [u8; 255]) -> Moved
     let next = step.line;
     let reply = step.reply;
     let declined = counted(run.declined, is_declined_too(reply));
+    let records = run.records + 1;
     Moved {
-        run: Run {
-            line,
-            asked,
-            other: next,
-            declined,
-            records: run.records + 1,
-        },
+        run: assembled(line, asked, next, declined, records),
         entry: Entry::Nothing,
         bill: validator::Session::TYPES,
     }
@@ -340,19 +357,25 @@ pub fn replay(recording: &[u8]) -> Findings
                 let books = booked(account, asked, entry);
                 account = books;
                 let bill = moved.bill;
-                let counts = validator::booked(bills, bill);
-                bills = counts;
+                if bill < validator::Session::TYPES {
+                    let counts = validator::booked(bills, bill);
+                    bills = counts;
+                }
             }
         }
     }
     match reader.ended() {
-        Verdict::Good => Findings {
-            account,
-            bills,
-            declined: run.declined as u32,
-            records: run.records as u32,
-            ending: Ending::Good,
-        },
+        Verdict::Good => {
+            let declined = run.declined as u32;
+            let records = run.records as u32;
+            Findings {
+                account,
+                bills,
+                declined,
+                records,
+                ending: Ending::Good,
+            }
+        }
         Verdict::Bad(why, at) => Findings::bad(why, at as u32),
     }
 }

@@ -19,15 +19,18 @@ is-declined-too-requires c κs = search needs
 counted-requires : tie.Need-counted-requires
 counted-requires c κs = search needs
 
-add-t17 : tie.Need-add-t17
-add-t17 c = search needs
+add-records : tie.Need-add-records
+add-records c = search needs
+
+assembled-requires : tie.Need-assembled-requires
+assembled-requires c κs = search needs
 
 returns : tie.Need-returns
 unfolding sessionRequest bookedBy
 returns c =
     λ a bs store second room.
-    let args = c .before .before .before .before .before .before .before .before .before .before .args in
-    simp (c .before .counted .ensures, c .before .before .is-declined-too .ensures) (by-request (joined (args .run) a bs store second room (args .wide .now)) (c .before .before .before .before .step-request .ensures))
+    let args = c .before .before .before .before .before .before .before .before .before .before .before .args in
+    simp (c .assembled .ensures, c .before .before .counted .ensures, c .before .before .before .is-declined-too .ensures) (by-request (joined (args .run) a bs store second room (args .wide .now)) (c .before .before .before .before .before .step-request .ensures))
 
 pub commanded-spec : {M : Type 1} → statement M
 commanded-spec =
@@ -37,5 +40,6 @@ commanded-spec =
     step-request-requires
     is-declined-too-requires
     counted-requires
-    add-t17
+    add-records
+    assembled-requires
     returns)

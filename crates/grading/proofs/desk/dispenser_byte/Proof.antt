@@ -14,13 +14,16 @@ is-declined-requires c κs = search needs
 counted-requires : tie.Need-counted-requires
 counted-requires c κs = search needs
 
-add-t16 : tie.Need-add-t16
-add-t16 c = search needs
+add-records : tie.Need-add-records
+add-records c = search needs
+
+assembled-requires : tie.Need-assembled-requires
+assembled-requires c κs = search needs
 
 returns : tie.Need-returns
 unfolding sessionByte bookedBy
-returns c = λ a bs second wide. simp (← c .before .before .before .before .step-byte .ensures, c .before .counted .ensures, c .before .before .is-declined .ensures)
+returns c = λ a bs second wide. simp (c .assembled .ensures, ← c .before .before .before .before .before .step-byte .ensures, c .before .before .counted .ensures, c .before .before .before .is-declined .ensures)
 
 pub dispenser-byte-spec : {M : Type 1} → statement M
 dispenser-byte-spec =
-    tie.close (tie.spec step-byte-requires is-declined-requires counted-requires add-t16 returns)
+    tie.close (tie.spec step-byte-requires is-declined-requires counted-requires add-records assembled-requires returns)

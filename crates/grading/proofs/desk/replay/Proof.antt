@@ -7,7 +7,7 @@ use Rattle.dispenser.specs.Session.{freshSession}
 use Rattle.validator.specs.Session.{freshSession as freshToo}
 use Rattle.recording.specs.Reading.{readingFrom}
 use Rattle.grading.specs.Replay.{freshDesk, replayed, replayOf, joined}
-use Rattle.grading.proofs.Loops.{goes-on, gives, breaks, near-start, near-place, ends-well, ends-badly, cut-place, counts, joins, long, short}
+use Rattle.grading.proofs.Loops.{goes-on, gives, breaks, near-start, near-place, ends-well, ends-badly, cut-place, counts, joins, no-bill, long, short}
 use borrow.Author.Needs.{needs}
 use native.Mathlib.Omega.{arith}
 use Rattle.grading.proofs.desk.replay.Statement.{statement}
@@ -107,10 +107,30 @@ booked-requires-2 : tie.Need-booked-requires-2 Inv-loop μ-loop
 booked-requires-2 c κs = search needs
 
 loop-less-2 : tie.Need-loop-less-2 Inv-loop μ-loop
-loop-less-2 c = omega (arith, c .before .before .before .before .before .before .before .before .before .before .before .before .before .before .before .loop-test .taken)
+loop-less-2 c = omega (arith, c .before .before .before .before .before .before .before .before .before .before .before .before .before .before .before .before .loop-test .taken)
 
 loop-again-2 : tie.Need-loop-again-2 Inv-loop μ-loop
 loop-again-2 c =
+    let turn = c .before .before .before .before .before .before .before .before .before .before .before .before .before .before .before .before .before .loop in
+    let inv = turn .inv in
+    let h = c .before .before .before .before .before .before .before .before .before .before .before .before .before .before .before .before .loop-test .taken in
+    let g = c .before .before .before .before .before .step .ensures (turn .account) (turn .bills) in
+    let d = joined (turn .run) (turn .account) (turn .bills) (turn .store) (turn .second) (turn .room) (turn .wide) in
+    let x = c .before .before .before .before .before .before .before .before .before .before .before .heard2 .given .0 .0 in
+    let n = counts d _ x g in (
+      omega (arith, h),
+      inv .1,
+      omega (arith, near-start (turn .reader) (c .before .before .before .before .before .before .before .before .before .before .before .before .before .before .before .before .before .before .before .before .before .before .before .before .before .before .before .before .before .before .args .recording .now) (turn .i) h (c .before .before .before .before .before .before .before .before .before .before .before .before .before .before .byte .result) (c .before .before .before .before .before .before .before .before .before .before .before .before .before .before .byte .ensures) (inv .2)),
+      omega (arith, inv .3, n .0, n .1),
+      omega (arith, inv .4, n .0),
+      gives (turn .reader) (c .before .before .before .before .before .before .before .before .before .before .before .before .before .before .before .before .before .before .before .before .before .before .before .before .before .before .before .before .before .before .args .recording .now) (turn .i) h (c .before .before .before .before .before .before .before .before .before .before .before .before .before .before .byte .result) (c .before .before .before .before .before .before .before .before .before .before .before .before .before .before .byte .ensures) d _ x (c .before .before .before .before .before .before .before .before .before .before .before .heard2 .given .1) (joins _ _ _ _ _ (c .before .before .booked .ensures) (c .booked2 .ensures) ∙ g) (inv .5),
+    )
+
+loop-less-3 : tie.Need-loop-less-3 Inv-loop μ-loop
+loop-less-3 c = omega (arith, c .before .before .before .before .before .before .before .before .before .before .before .before .before .before .before .loop-test .taken)
+
+loop-again-3 : tie.Need-loop-again-3 Inv-loop μ-loop
+loop-again-3 c =
     let turn = c .before .before .before .before .before .before .before .before .before .before .before .before .before .before .before .before .loop in
     let inv = turn .inv in
     let h = c .before .before .before .before .before .before .before .before .before .before .before .before .before .before .before .loop-test .taken in
@@ -123,7 +143,7 @@ loop-again-2 c =
       omega (arith, near-start (turn .reader) (c .before .before .before .before .before .before .before .before .before .before .before .before .before .before .before .before .before .before .before .before .before .before .before .before .before .before .before .before .before .args .recording .now) (turn .i) h (c .before .before .before .before .before .before .before .before .before .before .before .before .before .byte .result) (c .before .before .before .before .before .before .before .before .before .before .before .before .before .byte .ensures) (inv .2)),
       omega (arith, inv .3, n .0, n .1),
       omega (arith, inv .4, n .0),
-      gives (turn .reader) (c .before .before .before .before .before .before .before .before .before .before .before .before .before .before .before .before .before .before .before .before .before .before .before .before .before .before .before .before .before .args .recording .now) (turn .i) h (c .before .before .before .before .before .before .before .before .before .before .before .before .before .byte .result) (c .before .before .before .before .before .before .before .before .before .before .before .before .before .byte .ensures) d _ x (c .before .before .before .before .before .before .before .before .before .before .heard2 .given .1) (joins _ _ _ _ _ (c .before .booked .ensures) (c .booked2 .ensures) ∙ g) (inv .5),
+      gives (turn .reader) (c .before .before .before .before .before .before .before .before .before .before .before .before .before .before .before .before .before .before .before .before .before .before .before .before .before .before .before .before .before .args .recording .now) (turn .i) h (c .before .before .before .before .before .before .before .before .before .before .before .before .before .byte .result) (c .before .before .before .before .before .before .before .before .before .before .before .before .before .byte .ensures) d _ x (c .before .before .before .before .before .before .before .before .before .before .heard2 .given .1) (joins _ _ _ _ _ (c .before .booked .ensures) (no-bill _ _ (c .if2 .left)) ∙ g) (inv .5),
     )
 
 ended-requires : tie.Need-ended-requires Inv-loop μ-loop
@@ -132,11 +152,11 @@ ended-requires c κs = search needs
 enum-told-2 : tie.Need-enum-told-2 Inv-loop μ-loop
 enum-told-2 c = search needs
 
-cast-t46 : tie.Need-cast-t46 Inv-loop μ-loop
-cast-t46 c = let end = c .before .before .before .before .before .loop in record { fits = omega (arith, end .inv .0, end .inv .1, end .inv .3, end .inv .4) }
+cast-declined : tie.Need-cast-declined Inv-loop μ-loop
+cast-declined c = let end = c .before .before .before .before .before .loop in record { fits = omega (arith, end .inv .0, end .inv .1, end .inv .3, end .inv .4) }
 
-cast-t47 : tie.Need-cast-t47 Inv-loop μ-loop
-cast-t47 c = let end = c .before .before .before .before .before .before .loop in record { fits = omega (arith, end .inv .0, end .inv .1, end .inv .4) }
+cast-records : tie.Need-cast-records Inv-loop μ-loop
+cast-records c = let end = c .before .before .before .before .before .before .loop in record { fits = omega (arith, end .inv .0, end .inv .1, end .inv .4) }
 
 enum-known-why : tie.Need-enum-known-why Inv-loop μ-loop
 enum-known-why c = search needs
@@ -187,10 +207,12 @@ replay-spec =
     booked-requires-2
     loop-less-2
     loop-again-2
+    loop-less-3
+    loop-again-3
     ended-requires
     enum-told-2
-    cast-t46
-    cast-t47
+    cast-declined
+    cast-records
     enum-known-why
     cast-bad-2
     bad-requires-3

@@ -14,14 +14,17 @@ is-declined-requires c κs = search needs
 counted-requires : tie.Need-counted-requires
 counted-requires c κs = search needs
 
-add-t17 : tie.Need-add-t17
-add-t17 c = search needs
+add-records : tie.Need-add-records
+add-records c = search needs
+
+assembled-requires : tie.Need-assembled-requires
+assembled-requires c κs = search needs
 
 returns : tie.Need-returns
 unfolding sessionRequest bookedBy
-returns c = λ a bs store second wide. simp (← c .before .before .before .before .before .step-request .ensures, c .before .counted .ensures, c .before .before .is-declined .ensures)
+returns c = λ a bs store second wide. simp (c .assembled .ensures, ← c .before .before .before .before .before .before .step-request .ensures, c .before .before .counted .ensures, c .before .before .before .is-declined .ensures)
 
 pub requested-spec : {M : Type 1} → statement M
 requested-spec =
     tie.close
-    (tie.spec step-request-requires is-declined-requires counted-requires add-t17 returns)
+    (tie.spec step-request-requires is-declined-requires counted-requires add-records assembled-requires returns)

@@ -27,16 +27,19 @@ either-requires c κs = search needs
 counted-requires : tie.Need-counted-requires
 counted-requires c κs = search needs
 
-add-t25 : tie.Need-add-t25
-add-t25 c = record { fits = omega (arith, c .before .before .before .before .before .before .before .before .before .before .before .before .before .before .before .pre .1) }
+add-records : tie.Need-add-records
+add-records c = record { fits = omega (arith, c .before .before .before .before .before .before .before .before .before .before .before .before .before .before .before .pre .1) }
+
+assembled-requires : tie.Need-assembled-requires
+assembled-requires c κs = search needs
 
 returns : tie.Need-returns
 unfolding sessionTick tickToo
 returns c =
     λ a bs store.
-    let args = c .before .before .before .before .before .before .before .before .before .before .before .before .before .before .before .args in
-    simp (c .before .counted .ensures, c .before .before .either .ensures, c .before .before .before .is-declined-too .ensures, c .before .before .before .before .is-declined .ensures)
-    (by-tick (joined (args .run) a bs store (args .second .now) (args .room .now) (args .wide .now)) (c .before .before .before .before .before .before .before .before .before .before .step-tick .ensures) (c .before .before .before .before .before .before .step-tick2 .ensures))
+    let args = c .before .before .before .before .before .before .before .before .before .before .before .before .before .before .before .before .args in
+    simp (c .assembled .ensures, c .before .before .counted .ensures, c .before .before .before .either .ensures, c .before .before .before .before .is-declined-too .ensures, c .before .before .before .before .before .is-declined .ensures)
+    (by-tick (joined (args .run) a bs store (args .second .now) (args .room .now) (args .wide .now)) (c .before .before .before .before .before .before .before .before .before .before .before .step-tick .ensures) (c .before .before .before .before .before .before .before .step-tick2 .ensures))
 
 pub ticked-spec : {M : Type 1} → statement M
 ticked-spec =
@@ -48,5 +51,6 @@ ticked-spec =
     is-declined-too-requires
     either-requires
     counted-requires
-    add-t25
+    add-records
+    assembled-requires
     returns)

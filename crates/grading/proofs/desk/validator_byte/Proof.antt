@@ -15,17 +15,20 @@ is-declined-too-requires c κs = search needs
 counted-requires : tie.Need-counted-requires
 counted-requires c κs = search needs
 
-add-t17 : tie.Need-add-t17
-add-t17 c = search needs
+add-records : tie.Need-add-records
+add-records c = search needs
+
+assembled-requires : tie.Need-assembled-requires
+assembled-requires c κs = search needs
 
 returns : tie.Need-returns
 unfolding sessionByte
 returns c =
     λ a bs store room.
-    let args = c .before .before .before .before .before .before .before .before .before .before .args in
-    simp (c .before .counted .ensures, c .before .before .is-declined-too .ensures) (by-byte (joined (args .run) a bs store (args .second .now) room (args .wide .now)) (c .before .before .before .before .step-byte .ensures))
+    let args = c .before .before .before .before .before .before .before .before .before .before .before .args in
+    simp (c .assembled .ensures, c .before .before .counted .ensures, c .before .before .before .is-declined-too .ensures) (by-byte (joined (args .run) a bs store (args .second .now) room (args .wide .now)) (c .before .before .before .before .before .step-byte .ensures))
 
 pub validator-byte-spec : {M : Type 1} → statement M
 validator-byte-spec =
     tie.close
-    (tie.spec step-byte-requires is-declined-too-requires counted-requires add-t17 returns)
+    (tie.spec step-byte-requires is-declined-too-requires counted-requires add-records assembled-requires returns)
