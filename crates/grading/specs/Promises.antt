@@ -1,5 +1,6 @@
 -- What is promised of a replay and its report: the calls that a recording makes on each session, and what their history gives. Proved in
 -- proofs/Recorded.antt and proofs/Enough.antt.
+-- A name that ends in Too is the validator session's, the same without it the dispenser session's.
 use Prim.Native.Nat.{ℕ, _+_, _≤_, _<_}
 use mathlib.Core.Path.{_≡_}
 use mathlib.Core.Bool.{Bool, cond, _||_}

@@ -1,4 +1,5 @@
 -- Replay (01, "Recording and report"): the sessions' own steps, folded over the records of a recording.
+-- A name that ends in Too is the validator session's, the same without it the dispenser session's.
 use Prim.Native.Nat.{ℕ, _+_}
 use mathlib.Core.Bool.{Bool, true, false, cond, _||_}
 use mathlib.Core.List.{List, [], _∷_}

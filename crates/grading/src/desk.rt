@@ -33,7 +33,8 @@ pub struct Findings {
     pub ending: Ending,
 }
 
-// What changes with each record, but for stores, rooms and what is booked.
+// What changes with each record, but for stores, rooms and what is booked: the dispenser's line and its command, the other line (the validator's), and
+// the counts.
 pub(crate) struct Run {
     pub line: dispenser::Line,
     pub asked: Asked,
