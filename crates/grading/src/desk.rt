@@ -12,10 +12,10 @@ ghost use Rattle.grading.specs.Replay.{declines, declinesToo, runOf, ent
 use dispenser::Account;
 use dispenser::Asked;
 use recording::Fault;
-use recording::Heard;
+use recording::Found;
 use recording::Reader;
 use recording::Record;
-use recording::Verdict;
+use recording::record_at;
 use validator::Bills;
 
 // How a replay ends: the recording is good, or bad by a fault that shows in the record at an offset.
@@ -334,22 +334,16 @@ pub fn replay(recording: &[u8]) -> Findings
     let mut second = validator.store;
     let mut room = [0u8; 16];
     let mut wide = [0u8; 255];
-    let mut reader = Reader::fresh();
     let mut i: usize = 0;
     while i < recording.len() {
-        let took = reader.byte(i as u64, recording[i]);
-        i += 1;
-        let next = took.reader;
-        reader = next;
-        let heard = took.heard;
-        match heard {
-            Heard::More => {
-                continue;
+        let found = record_at(recording, i);
+        match found {
+            Found::Bad(why) => {
+                let at = i as u32;
+                return Findings::bad(why, at);
             }
-            Heard::Bad(why, at) => {
-                return Findings::bad(why, at as u32);
-            }
-            Heard::Whole(x) => {
+            Found::Whole(x, size) => {
+                i += size;
                 let moved = step(run, x, &mut store, &mut second, &mut room, &mut wide);
                 let following = moved.run;
                 run = following;
@@ -365,18 +359,13 @@ pub fn replay(recording: &[u8]) -> Findings
             }
         }
     }
-    match reader.ended() {
-        Verdict::Good => {
-            let declined = run.declined as u32;
-            let records = run.records as u32;
-            Findings {
-                account,
-                bills,
-                declined,
-                records,
-                ending: Ending::Good,
-            }
-        }
-        Verdict::Bad(why, at) => Findings::bad(why, at as u32),
+    let declined = run.declined as u32;
+    let records = run.records as u32;
+    Findings {
+        account,
+        bills,
+        declined,
+        records,
+        ending: Ending::Good,
     }
 }

@@ -5,5 +5,6 @@ pub mod Numbers
 pub mod Trips
 pub mod Back
 pub mod Exact
+pub mod Glances
 pub mod Starts
 pub mod Tied

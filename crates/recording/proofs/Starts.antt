@@ -1,89 +1,154 @@
--- A record starts at a byte that was read: no offset is past the byte that shows the fault. Assumes nothing.
-use Prim.Native.Nat.{ℕ, _%_, _≤_}
-use mathlib.Core.Path.{_≡_}
+-- From one record to the next: what is found where a record is due is what the recording says there, and then it goes on between records.
+-- Assumes nothing.
+use Prim.Native.Nat.{ℕ, suc, _+_, _%_, _≤_, _<_}
+use mathlib.Core.Path.{_≡_, refl, sym, ap, _∙_, subst}
 use mathlib.Core.Bool.{Bool, true, false, cond}
-use mathlib.Core.List.{[], _∷_}
-use native.Mathlib.Nat.{le-refl}
+use mathlib.Core.List.{List, [], _∷_}
 use native.Mathlib.Omega.{arith}
 use lib.Dec.{eqb}
+use lib.ListN.{length, drop, length-drop}
+use lib.Seq.{drop-drop}
+use denote.Enum.Declared.{tagOf}
+use types.Run.{OneOf, hit, miss}
 use Rattle.numbers.specs.Rules.{Condition, under, isnt, judged, _gives_}
-use Rattle.dispenser_frame.specs.Table.{known}
-use Rattle.recording.specs.Record.{numberEnd, inList}
 use Rattle.numbers.specs.Seven.{nextGroup}
 use Rattle.numbers.specs.declared.Group.{Group}
 use Rattle.numbers.specs.declared.Group.the-variants.{More as OneMore, Last, Wrong}
-use Rattle.recording.specs.Reading.{awaiting, grown, nextNumber, more, whole, refusedAt, refused, kindByte, numbered, requestRead, byteRead, commandRead, groupRead, grouped, byteIn, readByte}
+use Rattle.dispenser_frame.specs.Table.{known}
+use Rattle.recording.specs.Record.{numberEnd, inList}
+use Rattle.recording.specs.Reading.{Reading, bad, freshReader, awaiting, grown, nextNumber, more, whole, refusedAt, refused, kindByte, numbered, requestRead, byteRead, commandRead, groupRead, grouped, readByte, also, went, closing, readingFrom}
+use Rattle.recording.specs.Taking.{settled, foundFrom, foundAt}
 use Rattle.recording.specs.declared.Fault.{Fault}
-use Rattle.recording.specs.declared.Fault.the-variants.{BadNumber, Unknown}
+use Rattle.recording.specs.declared.Fault.the-variants.{BadNumber, Cut, Unknown}
 use Rattle.recording.specs.declared.Record.{Record}
 use Rattle.recording.specs.declared.Record.the-variants.{Request, DispenserByte, Tick, ValidatorByte, Command}
 use Rattle.recording.specs.declared.Place.{Place}
 use Rattle.recording.specs.declared.Place.the-variants.{Kind, Code, Upper, Lower, FromDispenser, Milliseconds, FromValidator, ToValidator}
 use Rattle.recording.specs.declared.Reader.{Reader}
-use Rattle.recording.specs.declared.Heard.the-variants.{More, Whole, Bad}
 use Rattle.recording.specs.declared.Took.{Took}
+use Rattle.recording.specs.declared.Found.{Found}
+use Rattle.recording.specs.declared.Found.the-variants.{Whole, Bad}
+use Rattle.recording.proofs.Places.{within, Inside, begun-byte, begun-ended}
+use Rattle.recording.proofs.Folds.{reading-nil, reading-cons}
+use Rattle.recording.proofs.Glances.{found-nil, found-step}
 
--- the record begun starts no later than at, and so does one that shows a fault
-pub record Near (at : ℕ) (t : Took) : Type 0 where
-  pub start : t .reader .start ≤ at
-  pub place : (why : Fault) (o : ℕ) → t .heard ≡ Bad why o → o ≤ at
+-- ---- what a byte of the record that starts at o leaves
 
-near-more : {at : ℕ} (r : Reader) → r .start ≤ at → Near at (more r)
-near-more r h = record { start = h; place = λ why o e. let z : _≡_ {A = ℕ} 0 1 = cc in omega arith }
+data Held (o : ℕ) : Took → Type 0 where
+  begun : (r : Reader) → Inside (r .place) → r .start ≡ o → Held o (more r)
+  complete : (x : Record) → Held o (whole x)
+  faulty : (r : Reader) (why : Fault) → Held o (refusedAt r o why)
 
-near-whole : {at : ℕ} (x : Record) → Near at (whole x)
-near-whole x = record { start = omega arith; place = λ why o e. let z : _≡_ {A = ℕ} 0 1 = cc in omega arith }
+held-either : {o : ℕ} (t : Bool) {x y : Took} → Held o x → Held o y → Held o (cond t x y)
+held-either true a b = a
+held-either false a b = b
 
-near-refused : {at : ℕ} (r : Reader) (o : ℕ) (why : Fault) → r .start ≤ at → o ≤ at → Near at (refusedAt r o why)
-near-refused r o why h l = record { start = h; place = λ y p e. let q : o ≡ p = cc in omega arith }
-
-near-either : {at : ℕ} (t : Bool) {x y : Took} → Near at x → Near at y → Near at (cond t x y)
-near-either true a b = a
-near-either false a b = b
+held-refused : {o : ℕ} (r : Reader) (why : Fault) → r .start ≡ o → Held o (refused r why)
+held-refused {o} r why e = subst (λ (p : ℕ). Held o (refusedAt r p why)) (sym e) (faulty r why)
 
 -- a record, unless its value is refused
-near-value : {at : ℕ} (c : Condition) (r : Reader) (x : Record) → r .start ≤ at → Near at (judged (c gives Unknown ∷ []) (refused r) (whole x))
-near-value c r x h = near-either (c .test) (near-refused r (r .start) Unknown h h) (near-whole x)
+held-value : {o : ℕ} (c : Condition) (r : Reader) (x : Record) → r .start ≡ o → Held o (judged (c gives Unknown ∷ []) (refused r) (whole x))
+held-value c r x e = held-either (c .test) (held-refused r Unknown e) (complete x)
 
-near-number : {at : ℕ} (p : Place) (r : Reader) (n : ℕ) → r .start ≤ at → Near at (numbered p r n)
+held-number : {o : ℕ} (p : Place) → Inside p → (r : Reader) (n : ℕ) → r .start ≡ o → Held o (numbered p r n)
 unfolding requestRead byteRead commandRead
-near-number Kind r n h = near-more r h
-near-number Code r n h = near-more (nextNumber r n (r .upper) Upper) h
-near-number Upper r n h = near-more (nextNumber r (r .code) n Lower) h
-near-number Lower r n h = near-value (isnt (known (r .code))) r (Request (r .code) (r .upper % numberEnd) n) h
-near-number FromDispenser r n h = near-value (under 255 n) r (DispenserByte n) h
-near-number Milliseconds r n h = near-whole (Tick n)
-near-number FromValidator r n h = near-value (under 255 n) r (ValidatorByte n) h
-near-number ToValidator r n h = near-value (isnt (inList n)) r (Command n) h
+held-number Kind i r n e = absurd (miss within 0 tt i)
+held-number Code i r n e = begun (nextNumber r n (r .upper) Upper) (hit within 2 tt) e
+held-number Upper i r n e = begun (nextNumber r (r .code) n Lower) (hit within 3 tt) e
+held-number Lower i r n e = held-value (isnt (known (r .code))) r (Request (r .code) (r .upper % numberEnd) n) e
+held-number FromDispenser i r n e = held-value (under 255 n) r (DispenserByte n) e
+held-number Milliseconds i r n e = complete (Tick n)
+held-number FromValidator i r n e = held-value (under 255 n) r (ValidatorByte n) e
+held-number ToValidator i r n e = held-value (isnt (inList n)) r (Command n) e
 
-near-group : {at : ℕ} (g : Group) (r : Reader) → r .start ≤ at → Near at (groupRead g r)
-near-group (OneMore a w) r h = near-more (grown r a w) h
-near-group (Last n) r h = near-number (r .place) r n h
-near-group Wrong r h = near-refused r (r .start) BadNumber h h
+held-group : {o : ℕ} (g : Group) (r : Reader) → Inside (r .place) → r .start ≡ o → Held o (groupRead g r)
+held-group (OneMore a w) r i e = begun (grown r a w) i e
+held-group (Last n) r i e = held-number (r .place) i r n e
+held-group Wrong r i e = held-refused r BadNumber e
 
-near-begun : (at : ℕ) (p : Place) → Near at (more (awaiting at p))
-near-begun at p = near-more (awaiting at p) (le-refl at)
-
-near-kind : (r : Reader) (at b : ℕ) → r .start ≤ at → Near at (kindByte r at b)
-unfolding kindByte
-near-kind r at b h =
-    near-either (eqb b 0) (near-begun at Code)
-    (near-either (eqb b 1) (near-begun at FromDispenser)
-    (near-either (eqb b 2) (near-begun at Milliseconds)
-    (near-either (eqb b 3) (near-begun at FromValidator)
-    (near-either (eqb b 4) (near-begun at ToValidator) (near-refused r at Unknown h (le-refl at))))))
-
-near-in : (p : Place) (r : Reader) (at b : ℕ) → r .start ≤ at → Near at (byteIn p r at b)
+held-byte : {o : ℕ} (r : Reader) (at b : ℕ) → Inside (r .place) → r .start ≡ o → Held o (readByte r at b)
 unfolding grouped
-near-in Kind r at b h = near-kind r at b h
-near-in Code r at b h = near-group (nextGroup (r .acc) (r .weight) b) r h
-near-in Upper r at b h = near-group (nextGroup (r .acc) (r .weight) b) r h
-near-in Lower r at b h = near-group (nextGroup (r .acc) (r .weight) b) r h
-near-in FromDispenser r at b h = near-group (nextGroup (r .acc) (r .weight) b) r h
-near-in Milliseconds r at b h = near-group (nextGroup (r .acc) (r .weight) b) r h
-near-in FromValidator r at b h = near-group (nextGroup (r .acc) (r .weight) b) r h
-near-in ToValidator r at b h = near-group (nextGroup (r .acc) (r .weight) b) r h
+held-byte {o} r at b i e = subst (Held o) (sym (begun-byte r at b i)) (held-group (nextGroup (r .acc) (r .weight) b) r i e)
 
-pub near : (r : Reader) (at b : ℕ) → r .start ≤ at → Near at (readByte r at b)
-unfolding readByte
-near r at b h = near-in (r .place) r at b h
+-- its kind
+held-kind : (at b : ℕ) → Held at (readByte freshReader at b)
+unfolding readByte kindByte
+held-kind at b =
+    held-either (eqb b 0) (begun (awaiting at Code) (hit within 1 tt) refl)
+    (held-either (eqb b 1) (begun (awaiting at FromDispenser) (hit within 4 tt) refl)
+    (held-either (eqb b 2) (begun (awaiting at Milliseconds) (hit within 5 tt) refl)
+    (held-either (eqb b 3) (begun (awaiting at FromValidator) (hit within 6 tt) refl)
+    (held-either (eqb b 4) (begun (awaiting at ToValidator) (hit within 7 tt) refl) (faulty freshReader Unknown)))))
+
+-- ---- what the bytes say from p on, o, and what is found there once n bytes of the record at a were read
+
+data Leads (a p n : ℕ) (s : List ℕ) (o : Reading) : Found → Type 0 where
+  one : (x : Record) (k : ℕ) → 0 < k → k ≤ length s → o ≡ also x (readingFrom freshReader (p + k) (drop k s)) → Leads a p n s o (Whole x (n + k))
+  none : (why : Fault) → o ≡ bad why a → Leads a p n s o (Bad why)
+
+leads-later : {a p n b : ℕ} {s : List ℕ} {o : Reading} {f : Found} → Leads a (suc p) (suc n) s o f → Leads a p n (b ∷ s) o f
+leads-later {a} {p} {n} {b} {s} {o} (one x k h l e) =
+    let f : n + suc k ≡ suc n + k = omega arith in
+    let g : suc p + k ≡ p + suc k = omega arith in
+    subst (λ (m : ℕ). Leads a p n (b ∷ s) o (Whole x m)) f
+    (one x (suc k) (omega arith) (omega (arith, l)) (e ∙ ap (λ (q : ℕ). also x (readingFrom freshReader q (drop k s))) g))
+leads-later (none why e) = none why e
+
+leads-byte : {a p n b : ℕ} {s : List ℕ} (t : Took) → Held a t
+    → ((r : Reader) → Inside (r .place) → r .start ≡ a → Leads a (suc p) (suc n) s (readingFrom r (suc p) s) (foundFrom r (suc p) (suc n) s))
+    → Leads a p n (b ∷ s) (went (t .heard) (readingFrom (t .reader) (suc p) s)) (settled (t .heard) (suc n) (foundFrom (t .reader) (suc p) (suc n) s))
+leads-byte t (begun r i e) later = leads-later (later r i e)
+leads-byte {a} {p} {n} {b} {s} t (complete x) later =
+    let f : n + 1 ≡ suc n = omega arith in
+    let g : suc p ≡ p + 1 = omega arith in
+    subst (λ (m : ℕ). Leads a p n (b ∷ s) (also x (readingFrom freshReader (suc p) s)) (Whole x m)) f
+    (one x 1 (omega arith) (omega arith) (ap (λ (q : ℕ). also x (readingFrom freshReader q s)) g))
+leads-byte t (faulty r why) later = none why refl
+
+inside-leads : (s : List ℕ) {a : ℕ} (r : Reader) → Inside (r .place) → r .start ≡ a → (p n : ℕ)
+    → Leads a p n s (readingFrom r p s) (foundFrom r p n s)
+inside-leads [] {a} r i e p n =
+    subst (Leads a p n [] (readingFrom r p [])) (sym (found-nil r p n)) (none Cut (reading-nil r p ∙ ap closing (begun-ended r i) ∙ ap (bad Cut) e))
+inside-leads (b ∷ s) {a} r i e p n =
+    rw (reading-cons r p b s, found-step r p n b s (readByte r p b) refl)
+    (leads-byte (readByte r p b) (held-byte r p b i e) (λ r′ i′ e′. inside-leads s r′ i′ e′ (suc p) (suc n)))
+
+due-leads : (s : List ℕ) (a : ℕ) → 0 < length s → Leads a a 0 s (readingFrom freshReader a s) (foundFrom freshReader a 0 s)
+due-leads [] a h = absurd (omega (arith, h))
+due-leads (b ∷ s) a h =
+    rw (reading-cons freshReader a b s, found-step freshReader a 0 b s (readByte freshReader a b) refl)
+    (leads-byte (readByte freshReader a b) (held-kind a b) (λ r i e. inside-leads s r i e (suc a) 1))
+
+-- ---- in a recording s, at i: f is what is found there
+
+-- a record of n bytes
+pub record Read (s : List ℕ) (i : ℕ) (x : Record) (n : ℕ) : Type 0 where
+  pub some : 0 < n
+  pub fits : i + n ≤ length s
+  pub says : readingFrom freshReader i (drop i s) ≡ also x (readingFrom freshReader (i + n) (drop (i + n) s))
+
+one-read : (s : List ℕ) (i : ℕ) → i < length s → {x : Record} {n : ℕ} {f : Found} → f ≡ Whole x n
+    → Leads i i 0 (drop i s) (readingFrom freshReader i (drop i s)) f → Read s i x n
+one-read s i h {x} {n} q (one y k p l e) =
+    let same : y ≡ x = cc in
+    let size : 0 + k ≡ n = cc in
+    let m : k ≡ n = omega (arith, size) in
+    subst (λ (j : ℕ). Read s i x j) m
+    (subst (λ (z : Record). Read s i z k) same
+    (record { some = p; fits = omega (arith, simp length-drop at l); says = e ∙ ap (λ (t : List ℕ). also y (readingFrom freshReader (i + k) t)) (drop-drop k i s) }))
+one-read s i h q (none why e) = let z : _≡_ {A = ℕ} 0 1 = cc in absurd (omega arith)
+
+none-read : {i : ℕ} {s : List ℕ} {o : Reading} {why : Fault} {f : Found} → f ≡ Bad why → Leads i i 0 s o f → o ≡ bad why i
+none-read q (one y k p l e) = let z : _≡_ {A = ℕ} 0 1 = cc in absurd (omega arith)
+none-read {i} q (none w e) = e ∙ ap (λ (y : Fault). bad y i) cc
+
+module _ (s : List ℕ) (i : ℕ) (h : i < length s) (f : Found) (e : f ≡ foundAt s i) where
+  leads : Leads i i 0 (drop i s) (readingFrom freshReader i (drop i s)) f
+  unfolding foundAt
+  leads = subst (Leads i i 0 (drop i s) (readingFrom freshReader i (drop i s))) (sym e) (due-leads (drop i s) i (simp length-drop (omega (arith, h))))
+
+  pub whole-read : {x : Record} {n : ℕ} → f ≡ Whole x n → Read s i x n
+  whole-read q = one-read s i h q leads
+
+  pub bad-read : {why : Fault} → f ≡ Bad why → readingFrom freshReader i (drop i s) ≡ bad why i
+  bad-read q = none-read q leads

@@ -9,6 +9,8 @@ use Rattle.recording.proofs.Reader.byte.Kinds as byte
 use Rattle.recording.proofs.Reader.byte.Reads as byte-reads
 use Rattle.recording.proofs.Reader.ended.Kinds as ended
 use Rattle.recording.proofs.Reader.ended.Reads as ended-reads
+use Rattle.recording.proofs.record_at.Kinds as record-at
+use Rattle.recording.proofs.record_at.Reads as record-at-reads
 use Rattle.recording.proofs.judge.Kinds as judge
 use Rattle.recording.proofs.judge.Reads as judge-reads
 
@@ -23,6 +25,9 @@ byte-tied = tied byte.ps byte.r byte-reads.Post (λ κs x e. x) _ (λ κs a x e 
 
 pub ended-tied : Tied ended.ps ended.r ended-reads.Post (λ κs x e. x)
 ended-tied = tied ended.ps ended.r ended-reads.Post (λ κs x e. x) _ (λ κs a x e p. p)
+
+pub record-at-tied : Tied record-at.ps record-at.r record-at-reads.Post (λ κs x e. x)
+record-at-tied = tied record-at.ps record-at.r record-at-reads.Post (λ κs x e. x) _ (λ κs a x e p. p)
 
 pub judge-tied : Tied judge.ps judge.r judge-reads.Post (λ κs x e. x)
 judge-tied = tied judge.ps judge.r judge-reads.Post (λ κs x e. x) _ (λ κs a x e p. p)

@@ -1,4 +1,5 @@
 -- What the contracts of `recording` cite.
 pub mod Record
 pub mod Reading
+pub mod Taking
 pub mod Promises

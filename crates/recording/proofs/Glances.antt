@@ -1,0 +1,199 @@
+-- Records of two to four bytes: what the steps over their bytes come to. Assumes nothing.
+use Prim.Native.Nat.{ℕ, zero, suc, _+_, _*_, _-_, _%_, _≤_, _<_}
+use mathlib.Core.Path.{_≡_, refl, sym, ap, _∙_}
+use mathlib.Core.Bool.{Bool, true, false, _&&_}
+use mathlib.Core.List.{List, [], _∷_}
+use native.Mathlib.Nat.{mod-eq-of-lt}
+use native.Mathlib.Numerals.{add-one}
+use native.Mathlib.Omega.{arith}
+use lib.Dec.{eqb}
+use lib.ListN.{length, drop, getD, drop-of-length-le}
+use lib.Seq.{drop-cons}
+use types.Run.{hit}
+use borrow.Author.Tests.{lt-leb, le-leb, le-ltb, ne-eqb}
+use Rattle.numbers.specs.Seven.{groupAfter, nextGroup}
+use Rattle.numbers.specs.declared.Group.{Group}
+use Rattle.numbers.specs.declared.Group.the-variants.{More as OneMore, Last}
+use Rattle.recording.specs.Reading.{freshReader, awaiting, grown, nextNumber, more, kindByte, numbered, requestRead, groupRead, grouped, readByte}
+use Rattle.recording.specs.Taking.{settled, foundFrom, foundAt, placeOf, asked}
+use Rattle.recording.specs.declared.Fault.{Fault}
+use Rattle.recording.specs.declared.Fault.the-variants.{Cut}
+use Rattle.recording.specs.declared.Record.{Record}
+use Rattle.recording.specs.declared.Place.the-variants.{Code, Upper, ToValidator}
+use Rattle.recording.specs.declared.Reader.{Reader}
+use Rattle.recording.specs.declared.Took.{Took}
+use Rattle.recording.specs.declared.Heard.{Heard}
+use Rattle.recording.specs.declared.Heard.the-variants.{More, Whole as WholeRecord, Bad as Faulty}
+use Rattle.recording.specs.declared.Found.{Found}
+use Rattle.recording.specs.declared.Found.the-variants.{Whole, Bad}
+use Rattle.recording.proofs.Places.{within, Inside, begun-byte}
+
+-- ---- the fold
+
+pub found-nil : (r : Reader) (at n : ℕ) → foundFrom r at n [] ≡ Bad Cut
+unfolding foundFrom
+found-nil r at n = refl
+
+-- a byte, whose step is t
+pub found-step : (r : Reader) (at n b : ℕ) (s : List ℕ) (t : Took) → readByte r at b ≡ t
+    → foundFrom r at n (b ∷ s) ≡ settled (t .heard) (suc n) (foundFrom (t .reader) (suc at) (suc n) s)
+unfolding foundFrom
+found-step r at n b s t e = ap (λ (t : Took). settled (t .heard) (suc n) (foundFrom (t .reader) (suc at) (suc n) s)) e
+
+pub found-end : (r : Reader) (at n : ℕ) (s : List ℕ) (i : ℕ) → length s ≤ i → foundFrom r at n (drop i s) ≡ Bad Cut
+found-end r at n s i h = ap (foundFrom r at n) (drop-of-length-le s h) ∙ found-nil r at n
+
+pub found-start : (s : List ℕ) (at : ℕ) → foundFrom freshReader at (at - at) (drop at s) ≡ foundAt s at
+unfolding foundAt
+found-start s at = let e : at - at ≡ 0 = omega arith in ap (λ (n : ℕ). foundFrom freshReader at n (drop at s)) e
+
+-- the byte at i, whose step is t
+pub found-one : (r : Reader) (s : List ℕ) (i n : ℕ) → i < length s → (t : Took) → t ≡ readByte r i (getD s i 0)
+    → foundFrom r i n (drop i s) ≡ settled (t .heard) (n + 1) (foundFrom (t .reader) (i + 1) (n + 1) (drop (i + 1) s))
+found-one r s i n h t e = rw (drop-cons s i 0 h, add-one n, add-one i) (found-step r i n (getD s i 0) (drop (suc i) s) t (sym e))
+
+module _ (r : Reader) (s : List ℕ) (i n : ℕ) (h : i < length s) (t : Took) (e : t ≡ readByte r i (getD s i 0)) {o : Found}
+    (q : foundFrom r i n (drop i s) ≡ o) (m : ℕ) (k : m ≡ n + 1) where
+  settles : (y : Heard) → t .heard ≡ y → settled y m (foundFrom (t .reader) (i + 1) m (drop (i + 1) s)) ≡ o
+  settles y f = rw (k, sym f) (sym (found-one r s i n h t e) ∙ q)
+
+  pub goes-on : t .heard ≡ More → foundFrom (t .reader) (i + 1) m (drop (i + 1) s) ≡ o
+  goes-on f = settles More f
+
+  pub is-whole : {x : Record} → t .heard ≡ WholeRecord x → Whole x m ≡ o
+  is-whole {x} f = settles (WholeRecord x) f
+
+  pub is-bad : {why : Fault} {at : ℕ} → t .heard ≡ Faulty why at → Bad why ≡ o
+  is-bad {why} {at} f = settles (Faulty why at) f
+
+-- ---- the bytes
+
+-- a kind
+begins : (at k : ℕ) → k ≤ 4 → readByte freshReader at k ≡ more (awaiting at (placeOf k))
+unfolding readByte kindByte
+begins at zero h = refl
+begins at (suc zero) h = refl
+begins at (suc (suc zero)) h = refl
+begins at (suc (suc (suc zero))) h = refl
+begins at (suc (suc (suc (suc zero)))) h = refl
+begins at (suc (suc (suc (suc (suc k))))) h = absurd (omega arith)
+
+place-inside : (k : ℕ) → Inside (placeOf k)
+place-inside zero = hit within 1 tt
+place-inside (suc zero) = hit within 4 tt
+place-inside (suc (suc zero)) = hit within 5 tt
+place-inside (suc (suc (suc zero))) = hit within 6 tt
+place-inside (suc (suc (suc (suc k)))) = hit within 7 tt
+
+pub other-place : (k : ℕ) → 0 < k → (k ≡ 1 → ⊥) → (k ≡ 2 → ⊥) → (k ≡ 3 → ⊥) → placeOf k ≡ ToValidator
+other-place zero h a b c = absurd (omega arith)
+other-place (suc zero) h a b c = absurd (a refl)
+other-place (suc (suc zero)) h a b c = absurd (b refl)
+other-place (suc (suc (suc zero))) h a b c = absurd (c refl)
+other-place (suc (suc (suc (suc k)))) h a b c = refl
+
+no-and : (t : Bool) → (t && false) ≡ false
+no-and true = refl
+no-and false = refl
+
+-- a number's only group
+only : (b : ℕ) → b < 128 → nextGroup 0 1 b ≡ Last b
+unfolding nextGroup groupAfter
+only b h =
+    let e : b % 128 ≡ b = mod-eq-of-lt h in
+    let n : 0 + b * 1 ≡ b = omega arith in
+    simp (lt-leb 128 b h, e, n, lt-leb 4_294_967_296 b (omega arith), no-and (eqb b 0))
+
+-- the first of more
+first : (b : ℕ) → 128 ≤ b → nextGroup 0 1 b ≡ OneMore (b % 128) 128
+unfolding nextGroup groupAfter
+first b h =
+    let n : 0 + b % 128 * 1 ≡ b % 128 = omega arith in
+    simp (le-leb 128 b h, n)
+
+-- the second, and last
+second : (a h : ℕ) → a < 128 → 0 < h → h < 128 → nextGroup a 128 h ≡ Last (a + h * 128)
+unfolding nextGroup groupAfter
+second a h l p q =
+    let e : h % 128 ≡ h = mod-eq-of-lt q in
+    simp (lt-leb 128 a l, lt-leb 128 h q, e, lt-leb 4_294_967_296 (a + h * 128) (omega arith), ne-eqb h 0 (λ z. omega arith))
+
+-- a byte of a number, by what its group is
+groups : (r : Reader) (at b : ℕ) (g : Group) → Inside (r .place) → nextGroup (r .acc) (r .weight) b ≡ g → readByte r at b ≡ groupRead g r
+unfolding grouped
+groups r at b g i e = begun-byte r at b i ∙ ap (λ (g : Group). groupRead g r) e
+
+-- ---- the records
+
+module _ (at k b : ℕ) (h : k ≤ 4) where
+  -- a number of one group
+  pub of-two : b < 128 → (s : List ℕ)
+      → foundFrom freshReader at 0 (k ∷ b ∷ s)
+      ≡ settled (numbered (placeOf k) (awaiting at (placeOf k)) b .heard) 2
+      (foundFrom (numbered (placeOf k) (awaiting at (placeOf k)) b .reader) (suc (suc at)) 2 s)
+  of-two l s =
+      found-step freshReader at 0 k (b ∷ s) _ (begins at k h)
+      ∙ found-step (awaiting at (placeOf k)) (suc at) 1 b s _ (groups (awaiting at (placeOf k)) (suc at) b (Last b) (place-inside k) (only b l))
+
+  -- of two groups
+  pub of-three : 128 ≤ b → (c : ℕ) → 0 < c → c < 128 → (s : List ℕ)
+      → foundFrom freshReader at 0 (k ∷ b ∷ c ∷ s)
+      ≡ settled (numbered (placeOf k) (grown (awaiting at (placeOf k)) (b % 128) 128) (b % 128 + c * 128) .heard) 3
+      (foundFrom (numbered (placeOf k) (grown (awaiting at (placeOf k)) (b % 128) 128) (b % 128 + c * 128) .reader) (suc (suc (suc at))) 3 s)
+  of-three l c p q s =
+      found-step freshReader at 0 k (b ∷ c ∷ s) _ (begins at k h)
+      ∙ found-step (awaiting at (placeOf k)) (suc at) 1 b (c ∷ s) _ (groups (awaiting at (placeOf k)) (suc at) b (OneMore (b % 128) 128) (place-inside k) (first b l))
+      ∙ found-step (grown (awaiting at (placeOf k)) (b % 128) 128) (suc (suc at)) 2 c s _
+      (groups (grown (awaiting at (placeOf k)) (b % 128) 128) (suc (suc at)) c (Last (b % 128 + c * 128)) (place-inside k) (second (b % 128) c (omega arith) p q))
+
+-- a request
+pub of-four : (at c u l : ℕ) → c < 128 → u < 128 → l < 128 → (s : List ℕ)
+    → foundFrom freshReader at 0 (0 ∷ c ∷ u ∷ l ∷ s)
+    ≡ settled (requestRead (asked at c u) l .heard) 4 (foundFrom (requestRead (asked at c u) l .reader) (suc (suc (suc (suc at)))) 4 s)
+of-four at c u l p q h s =
+    found-step freshReader at 0 0 (c ∷ u ∷ l ∷ s) _ (begins at 0 (omega arith))
+    ∙ found-step (awaiting at Code) (suc at) 1 c (u ∷ l ∷ s) _ (groups (awaiting at Code) (suc at) c (Last c) (hit within 1 tt) (only c p))
+    ∙ found-step (nextNumber (awaiting at Code) c 0 Upper) (suc (suc at)) 2 u (l ∷ s) _
+    (groups (nextNumber (awaiting at Code) c 0 Upper) (suc (suc at)) u (Last u) (hit within 2 tt) (only u q))
+    ∙ found-step (asked at c u) (suc (suc (suc at))) 3 l s _ (groups (asked at c u) (suc (suc (suc at))) l (Last l) (hit within 3 tt) (only l h))
+
+-- ---- where they stand
+
+behind : (s : List ℕ) (i j : ℕ) → i < length s → j ≡ i + 1 → drop i s ≡ getD s i 0 ∷ drop j s
+behind s i j h e = let f : suc i ≡ j = omega (arith, e) in drop-cons s i 0 h ∙ ap (λ (k : ℕ). getD s i 0 ∷ drop k s) f
+
+module _ (s : List ℕ) (at : ℕ) (h : at + 4 ≤ length s) where
+  two : drop at s ≡ getD s at 0 ∷ getD s (at + 1) 0 ∷ drop (at + 2) s
+  two =
+      behind s at (at + 1) (omega (arith, h)) refl
+      ∙ ap (λ (t : List ℕ). getD s at 0 ∷ t) (behind s (at + 1) (at + 2) (omega (arith, h)) (omega arith))
+
+  three : drop at s ≡ getD s at 0 ∷ getD s (at + 1) 0 ∷ getD s (at + 2) 0 ∷ drop (at + 3) s
+  three = two ∙ ap (λ (t : List ℕ). getD s at 0 ∷ getD s (at + 1) 0 ∷ t) (behind s (at + 2) (at + 3) (omega (arith, h)) (omega arith))
+
+  four : drop at s ≡ getD s at 0 ∷ getD s (at + 1) 0 ∷ getD s (at + 2) 0 ∷ getD s (at + 3) 0 ∷ drop (at + 4) s
+  four =
+      three ∙ ap (λ (t : List ℕ). getD s at 0 ∷ getD s (at + 1) 0 ∷ getD s (at + 2) 0 ∷ t) (behind s (at + 3) (at + 4) (omega (arith, h)) (omega arith))
+
+  -- what x is, whatever the reader and the rest, is found there
+  pub found-two : getD s at 0 ≤ 4 → getD s (at + 1) 0 < 128 → {x : Found}
+      → ((r : Reader) (rest : Found) → x ≡ settled (numbered (placeOf (getD s at 0)) r (getD s (at + 1) 0) .heard) 2 rest) → x ≡ foundAt s at
+  unfolding foundAt
+  found-two k b e = e _ _ ∙ sym (of-two at (getD s at 0) (getD s (at + 1) 0) k b (drop (at + 2) s)) ∙ ap (foundFrom freshReader at 0) (sym two)
+
+  pub found-three : getD s at 0 ≤ 4 → 128 ≤ getD s (at + 1) 0 → 0 < getD s (at + 2) 0 → getD s (at + 2) 0 < 128 → {x : Found}
+      → ((r : Reader) (rest : Found) → x ≡ settled (numbered (placeOf (getD s at 0)) r (getD s (at + 1) 0 % 128 + getD s (at + 2) 0 * 128) .heard) 3 rest)
+      → x ≡ foundAt s at
+  unfolding foundAt
+  found-three k b p q e =
+      e _ _ ∙ sym (of-three at (getD s at 0) (getD s (at + 1) 0) k b (getD s (at + 2) 0) p q (drop (at + 3) s)) ∙ ap (foundFrom freshReader at 0) (sym three)
+
+  pub found-four : getD s at 0 ≡ 0 → getD s (at + 1) 0 < 128 → getD s (at + 2) 0 < 128 → getD s (at + 3) 0 < 128 → {x : Found}
+      → ((o : ℕ) (rest : Found) → x ≡ settled (requestRead (asked o (getD s (at + 1) 0) (getD s (at + 2) 0)) (getD s (at + 3) 0) .heard) 4 rest)
+      → x ≡ foundAt s at
+  unfolding foundAt
+  found-four k c u l e =
+      e at _
+      ∙ sym (of-four at (getD s (at + 1) 0) (getD s (at + 2) 0) (getD s (at + 3) 0) c u l (drop (at + 4) s))
+      ∙ ap (λ (z : ℕ). foundFrom freshReader at 0 (z ∷ getD s (at + 1) 0 ∷ getD s (at + 2) 0 ∷ getD s (at + 3) 0 ∷ drop (at + 4) s)) (sym k)
+      ∙ ap (foundFrom freshReader at 0) (sym four)
