@@ -17,14 +17,14 @@ pub(crate) fn put_digits(n: u32, room: &mut [u8]) -> Put {
 
 // What reading a number in groups of seven bits finds.
 pub(crate) fn groups(s: &[u8]) {
-    match numbers::read_groups(s) {
+    let found = numbers::read_groups(s);
+    match found {
         Seven::Value { number, used } => {
             sheet::print_form(b" reads as #, length ", &[number]);
             sheet::print_number(used);
             sheet::print_text(b"\n");
         }
-        Seven::Bad => sheet::print_fault(21),
-        Seven::Cut => sheet::print_fault(22),
+        _ => sheet::print_fault(found.number()),
     }
 }
 

@@ -4,7 +4,7 @@ ghost use Prim.Native.Nat.{_+_, _-_, _≤_, _<_};
 ghost use lib.ListN.{length};
 ghost use Rattle.numbers.specs.Rules.{within};
 ghost use Rattle.numbers.specs.Decimal.{digitOf, digits, places, decimal, readDigits};
-ghost use Rattle.numbers.specs.Seven.{groups, groupAfter, nextGroup, readGroups, Begun};
+ghost use Rattle.numbers.specs.Seven.{groups, groupAfter, nextGroup, readGroups, sevenNumber, Begun};
 ghost use Rattle.numbers.specs.Put.{refusalNumber, written, writing};
 
 // Why a plain writer refuses.
@@ -202,6 +202,19 @@ pub enum Seven {
     Bad,
     // The end comes before the last group.
     Cut,
+}
+
+impl Seven {
+    // Document 01's number for what was found: 0 where it is a value.
+    pub fn number(self) -> u8
+        ensures { λ r. ⌜ r ≡ sevenNumber self ⌝ }
+    {
+        match self {
+            Seven::Value { number: _, used: _ } => 0,
+            Seven::Bad => 21,
+            Seven::Cut => 22,
+        }
+    }
 }
 
 // The number in groups of seven bits at the start of a slice.

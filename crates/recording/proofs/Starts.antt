@@ -18,6 +18,7 @@ use Rattle.dispenser_frame.specs.Table.{known}
 use Rattle.recording.specs.Record.{numberEnd, inList}
 use Rattle.recording.specs.Reading.{Reading, bad, freshReader, awaiting, grown, nextNumber, more, whole, refusedAt, refused, kindByte, numbered, requestRead, byteRead, commandRead, groupRead, grouped, readByte, also, went, closing, readingFrom}
 use Rattle.recording.specs.Taking.{settled, foundFrom, foundAt}
+use Rattle.recording.specs.Promises.{Stands, TakenAtOnce}
 use Rattle.recording.specs.declared.Fault.{Fault}
 use Rattle.recording.specs.declared.Fault.the-variants.{BadNumber, Cut, Unknown}
 use Rattle.recording.specs.declared.Record.{Record}
@@ -121,20 +122,14 @@ due-leads (b ∷ s) a h =
 
 -- ---- in a recording s, at i: f is what is found there
 
--- a record of n bytes
-pub record Read (s : List ℕ) (i : ℕ) (x : Record) (n : ℕ) : Type 0 where
-  pub some : 0 < n
-  pub fits : i + n ≤ length s
-  pub says : readingFrom freshReader i (drop i s) ≡ also x (readingFrom freshReader (i + n) (drop (i + n) s))
-
 one-read : (s : List ℕ) (i : ℕ) → i < length s → {x : Record} {n : ℕ} {f : Found} → f ≡ Whole x n
-    → Leads i i 0 (drop i s) (readingFrom freshReader i (drop i s)) f → Read s i x n
+    → Leads i i 0 (drop i s) (readingFrom freshReader i (drop i s)) f → Stands s i x n
 one-read s i h {x} {n} q (one y k p l e) =
     let same : y ≡ x = cc in
     let size : 0 + k ≡ n = cc in
     let m : k ≡ n = omega (arith, size) in
-    subst (λ (j : ℕ). Read s i x j) m
-    (subst (λ (z : Record). Read s i z k) same
+    subst (λ (j : ℕ). Stands s i x j) m
+    (subst (λ (z : Record). Stands s i z k) same
     (record { some = p; fits = omega (arith, simp length-drop at l); says = e ∙ ap (λ (t : List ℕ). also y (readingFrom freshReader (i + k) t)) (drop-drop k i s) }))
 one-read s i h q (none why e) = let z : _≡_ {A = ℕ} 0 1 = cc in absurd (omega arith)
 
@@ -147,8 +142,11 @@ module _ (s : List ℕ) (i : ℕ) (h : i < length s) (f : Found) (e : f ≡ foun
   unfolding foundAt
   leads = subst (Leads i i 0 (drop i s) (readingFrom freshReader i (drop i s))) (sym e) (due-leads (drop i s) i (simp length-drop (omega (arith, h))))
 
-  pub whole-read : {x : Record} {n : ℕ} → f ≡ Whole x n → Read s i x n
+  pub whole-read : {x : Record} {n : ℕ} → f ≡ Whole x n → Stands s i x n
   whole-read q = one-read s i h q leads
 
   pub bad-read : {why : Fault} → f ≡ Bad why → readingFrom freshReader i (drop i s) ≡ bad why i
   bad-read q = none-read q leads
+
+pub taken-at-once : TakenAtOnce
+taken-at-once = record { whole = λ s at x n h q. whole-read s at h (foundAt s at) refl q; faulty = λ s at why h q. bad-read s at h (foundAt s at) refl q }

@@ -1,18 +1,20 @@
--- What is promised of recordings: each record read is what its bytes say, and each of 21 to 24 is given exactly when 01 says. Proved in
--- proofs/Exact.antt.
+-- What is promised of recordings: each record read is what its bytes say, a record may be taken at once, and each of 21 to 24 is given exactly
+-- when 01 says. Proved in proofs/Starts.antt and proofs/Exact.antt.
 use Prim.Native.Nat.{ℕ, _+_, _≤_, _<_}
 use mathlib.Core.Path.{_≡_}
 use mathlib.Core.List.{List, [], _∷_, _++_}
 use mathlib.Core.Logic.{_↔_}
-use lib.ListN.{length}
+use lib.ListN.{length, drop}
 use Rattle.numbers.specs.Promises.{Bytes}
 use Rattle.numbers.specs.Seven.{readGroups}
 use Rattle.numbers.specs.declared.Seven.the-variants.{Bad as NoNumber, Cut as NoEnd}
 use Rattle.recording.specs.Record.{mostBytes, howMany, takes, AllBelow, laidNumbers, recordBytes, InRange, laid, AllInRange}
 use Rattle.recording.specs.Reading.{Reading, records, bad, freshReader, also, readingFrom, readRecording}
+use Rattle.recording.specs.Taking.{foundAt}
 use Rattle.recording.specs.declared.Fault.{Fault}
 use Rattle.recording.specs.declared.Fault.the-variants.{BadNumber, Cut, Unknown, Long}
 use Rattle.recording.specs.declared.Record.{Record}
+use Rattle.recording.specs.declared.Found.the-variants.{Whole, Bad}
 
 -- why no record stands at the start of these bytes: an unknown kind; its numbers ns, and not the values that its kind takes; fewer numbers than
 -- it has, and then bytes that are no number, or an end before the last group of one
@@ -35,6 +37,17 @@ pub record Breaks (why : Fault) (at : ℕ) (s : List ℕ) : Type 0 where
 abbrev pub ReadsBack : Type 0
 ReadsBack = (x : Record) → InRange x → (at : ℕ) (t : List ℕ)
     → readingFrom freshReader at (recordBytes x ++ t) ≡ also x (readingFrom freshReader (at + length (recordBytes x)) t)
+
+-- at an offset where a record is due stands x, which has n bytes: the recording says x, and then what it says from behind those bytes on
+pub record Stands (s : List ℕ) (at : ℕ) (x : Record) (n : ℕ) : Type 0 where
+  pub some : 0 < n
+  pub fits : at + n ≤ length s
+  pub says : readingFrom freshReader at (drop at s) ≡ also x (readingFrom freshReader (at + n) (drop (at + n) s))
+
+-- what is found where a record is due is what the recording says there: a record that stands there, or why the recording is bad, at that offset
+pub record TakenAtOnce : Type 0 where
+  pub whole : (s : List ℕ) (at : ℕ) (x : Record) (n : ℕ) → at < length s → foundAt s at ≡ Whole x n → Stands s at x n
+  pub faulty : (s : List ℕ) (at : ℕ) (why : Fault) → at < length s → foundAt s at ≡ Bad why → readingFrom freshReader at (drop at s) ≡ bad why at
 
 -- a recording is good exactly where it is the bytes of records, and its records are those; 21, 22 and 23 exactly where the first record that
 -- is none shows that fault, with its offset; 24 exactly where it is over 65,536 bytes, at offset 0, whatever else it holds
