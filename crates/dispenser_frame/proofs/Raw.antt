@@ -80,11 +80,15 @@ read-raw fs make bad s h = rw (← raw-fits fs 4 s h) (go (allFit fs 4 s .test) 
     go true e = rw (raw-values fs 4 s (allFit fs 4 s .tells .shown e))
     go false e = refl
 
--- an answer's fields
-pub fields-raw : (fs : List Field) (make : List ℕ → Answer) (s : List ℕ) → Sound fs
-    → fieldsRead fs make s ≡ cond (allInRange fs (rawValues fs 4 s) .test) (readAs (make (rawValues fs 4 s))) (Refused Outside)
-unfolding fieldsRead
-fields-raw fs make s h = read-raw fs (λ v. readAs (make v)) (Refused Outside) s h
+-- an answer's fields: the answer that the reader's values make where all are in their ranges, and a refusal where not
+module _ (fs : List Field) (make : List ℕ → Answer) (s : List ℕ) (h : Sound fs) where
+  pub fields-good : allInRange fs (rawValues fs 4 s) .test ≡ true → readAs (make (rawValues fs 4 s)) ≡ fieldsRead fs make s
+  unfolding fieldsRead
+  fields-good e = sym (read-raw fs (λ v. readAs (make v)) (Refused Outside) s h ∙ rw e)
+
+  pub fields-bad : allInRange fs (rawValues fs 4 s) .test ≡ false → Refused Outside ≡ fieldsRead fs make s
+  unfolding fieldsRead
+  fields-bad e = sym (read-raw fs (λ v. readAs (make v)) (Refused Outside) s h ∙ rw e)
 
 -- a command's counts, by what is asked of each cassette
 counts-asked : (up lo : Bool) (code : ℕ) (s : List ℕ)
@@ -115,7 +119,7 @@ thirty-same b =
     (λ n. rw (ne-eqb b 0x30 n) (fails-false (within 0x30 0x30 b) (λ h. n (omega arith))))
 
 -- two fixed bytes tested first, and not in their place
-pub fixed-first : {A : Type 0} (a b c d : Bool) (p q : A) → cond (c && (a && (b && d))) p q ≡ cond ((a && b) && (c && d)) p q
-fixed-first true true c d p q = refl
-fixed-first true false c d p q = rw (and-false c)
-fixed-first false b c d p q = rw (and-false c)
+pub fixed-first : (a b c d : Bool) → (c && (a && (b && d))) ≡ ((a && b) && (c && d))
+fixed-first true true c d = refl
+fixed-first true false c d = and-false c
+fixed-first false b c d = and-false c

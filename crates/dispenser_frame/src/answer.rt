@@ -1,6 +1,6 @@
 // Answers: the device writes them, the host reads them.
 ghost use mathlib.Core.Path.{_≡_};
-ghost use mathlib.Core.Bool.{cond, _&&_};
+ghost use mathlib.Core.Bool.{_&&_};
 ghost use Prim.Native.Nat.{_+_, _≤_};
 ghost use mathlib.Core.List.{[], _∷_};
 ghost use lib.ListN.{length};
@@ -8,7 +8,7 @@ ghost use Rattle.numbers.specs.Rules.{within};
 ghost use Rattle.numbers.specs.Put.{written, laid};
 ghost use Rattle.dispenser_frame.specs.Layout.{inRange, allInRange, sizes};
 ghost use Rattle.dispenser_frame.specs.Table.{line, answerFields, answerLength, error as errorField, state as stateField, rejects as rejectsField, passed as passedField, known, purged, paid-one, paid-both, tested, status, purged-fields, paid-one-fields, paid-both-fields, tested-fields, status-fields};
-ghost use Rattle.dispenser_frame.specs.Answer.{payCode, testCode, answerCode, answerError, answerFits, answerFrame, readAs, writeAnswer, readAnswer};
+ghost use Rattle.dispenser_frame.specs.Answer.{payCode, testCode, answerCode, answerFits, answerFrame, writeAnswer, readAnswer};
 ghost use Rattle.dispenser_frame.specs.Parts.{fieldsRead};
 use crate::errors::is_listed;
 use crate::frame::Fault;
@@ -166,46 +166,6 @@ pub fn code_of(answer: Answer) -> u8
     }
 }
 
-// Its error byte.
-fn error_of(answer: Answer) -> u8
-    ensures { λ r. ⌜ r ≡ answerError answer ⌝ }
-{
-    match answer {
-        Answer::Purged { error } => error,
-        Answer::PaidOne {
-            cassette: _,
-            chk: _,
-            exit: _,
-            error,
-            state: _,
-            rejects: _,
-        } => error,
-        Answer::PaidBoth {
-            upper_chk: _,
-            upper_exit: _,
-            lower_chk: _,
-            lower_exit: _,
-            error,
-            upper_state: _,
-            lower_state: _,
-            upper_rejects: _,
-            lower_rejects: _,
-        } => error,
-        Answer::Tested {
-            cassette: _,
-            chk: _,
-            error,
-            state: _,
-            rejects: _,
-        } => error,
-        Answer::Status {
-            error,
-            sensor0: _,
-            sensor1: _,
-        } => error,
-    }
-}
-
 fn is_error(b: u8) -> bool
     ensures { λ r. ⌜ r ≡ inRange errorField b .test ⌝ }
 {
@@ -242,6 +202,25 @@ fn ending_fits(error: u8, state: u8, rejects: u32) -> bool
     )
 }
 
+// The fields that end an answer which speaks of both.
+fn endings_fit(
+    error: u8,
+    upper_state: u8,
+    lower_state: u8,
+    upper_rejects: u32,
+    lower_rejects: u32,
+) -> bool
+    ensures { λ r. ⌜ r ≡ allInRange (errorField ∷ stateField ∷ stateField ∷ rejectsField ∷ rejectsField ∷ [])
+        (error ∷ «upper_state» ∷ «lower_state» ∷ «upper_rejects» ∷ «lower_rejects» ∷ []) .test ⌝ }
+{
+    let states = both(is_state(upper_state), is_state(lower_state));
+    let rejects = both(
+        count_within(0, REJECTED, upper_rejects),
+        count_within(0, REJECTED, lower_rejects),
+    );
+    both(is_error(error), both(states, rejects))
+}
+
 // Is each field in its range?
 fn fits(answer: Answer) -> bool
     ensures { λ r. ⌜ r ≡ answerFits answer .test ⌝ }
@@ -266,15 +245,16 @@ fn fits(answer: Answer) -> bool
             lower_state,
             upper_rejects,
             lower_rejects,
-        } => {
-            let counts = both(passed(upper_chk, upper_exit), passed(lower_chk, lower_exit));
-            let states = both(is_state(upper_state), is_state(lower_state));
-            let rejects = both(
-                count_within(0, REJECTED, upper_rejects),
-                count_within(0, REJECTED, lower_rejects),
-            );
-            both(counts, both(is_error(error), both(states, rejects)))
-        }
+        } => both(
+            both(passed(upper_chk, upper_exit), passed(lower_chk, lower_exit)),
+            endings_fit(
+                error,
+                upper_state,
+                lower_state,
+                upper_rejects,
+                lower_rejects,
+            ),
+        ),
         Answer::Tested {
             cassette: _,
             chk,
@@ -467,25 +447,19 @@ fn read_fields(s: &[u8], code: u8) -> AnswerRead
     read_tested(s, Cassette::Lower)
 }
 
-// What a frame holds whose values make an answer, and whose fixed bytes are right.
-fn read_as(answer: Answer, fixed: bool) -> AnswerRead
-    ensures { λ r. ⌜ r ≡ cond (fixed && answerFits answer .test) (readAs answer) (AnswerRead.Refused Fault.Field) ⌝ }
-{
-    if both(fixed, fits(answer)) {
-        return AnswerRead::Read {
-            answer,
-            listed: is_listed(error_of(answer)),
-        };
-    }
-    AnswerRead::Refused(Fault::Field)
-}
-
 // 44h: error.
 fn read_purged(s: &[u8]) -> AnswerRead
     requires { ⌜ 7 ≤ length (now s) ⌝ }
     ensures { λ r. ⌜ r ≡ fieldsRead purged-fields purged (now (s .entry)) ⌝ }
 {
-    read_as(Answer::Purged { error: s[4] }, true)
+    let error = s[4];
+    if is_error(error) {
+        return AnswerRead::Read {
+            answer: Answer::Purged { error },
+            listed: is_listed(error),
+        };
+    }
+    AnswerRead::Refused(Fault::Field)
 }
 
 // 45h, 55h: CHK count, EXIT count, error, cassette state, rejects.
@@ -493,17 +467,25 @@ fn read_paid_one(s: &[u8], cassette: Cassette) -> AnswerRead
     requires { ⌜ 14 ≤ length (now s) ⌝ }
     ensures { λ r. ⌜ r ≡ fieldsRead paid-one-fields (paid-one cassette) (now (s .entry)) ⌝ }
 {
-    read_as(
-        Answer::PaidOne {
-            cassette,
-            chk: count(s, 4),
-            exit: count(s, 6),
-            error: s[8],
-            state: s[9],
-            rejects: count(s, 10),
-        },
-        true,
-    )
+    let chk = count(s, 4);
+    let exit = count(s, 6);
+    let error = s[8];
+    let state = s[9];
+    let rejects = count(s, 10);
+    if both(passed(chk, exit), ending_fits(error, state, rejects)) {
+        return AnswerRead::Read {
+            answer: Answer::PaidOne {
+                cassette,
+                chk,
+                exit,
+                error,
+                state,
+                rejects,
+            },
+            listed: is_listed(error),
+        };
+    }
+    AnswerRead::Refused(Fault::Field)
 }
 
 // 56h: upper CHK and EXIT, lower CHK and EXIT, error, upper state, lower state, upper rejects, lower rejects.
@@ -511,20 +493,40 @@ fn read_paid_both(s: &[u8]) -> AnswerRead
     requires { ⌜ 21 ≤ length (now s) ⌝ }
     ensures { λ r. ⌜ r ≡ fieldsRead paid-both-fields paid-both (now (s .entry)) ⌝ }
 {
-    read_as(
-        Answer::PaidBoth {
-            upper_chk: count(s, 4),
-            upper_exit: count(s, 6),
-            lower_chk: count(s, 8),
-            lower_exit: count(s, 10),
-            error: s[12],
-            upper_state: s[13],
-            lower_state: s[14],
-            upper_rejects: count(s, 15),
-            lower_rejects: count(s, 17),
-        },
-        true,
-    )
+    let upper_chk = count(s, 4);
+    let upper_exit = count(s, 6);
+    let lower_chk = count(s, 8);
+    let lower_exit = count(s, 10);
+    let error = s[12];
+    let upper_state = s[13];
+    let lower_state = s[14];
+    let upper_rejects = count(s, 15);
+    let lower_rejects = count(s, 17);
+    let counts = both(passed(upper_chk, upper_exit), passed(lower_chk, lower_exit));
+    let ending = endings_fit(
+        error,
+        upper_state,
+        lower_state,
+        upper_rejects,
+        lower_rejects,
+    );
+    if both(counts, ending) {
+        return AnswerRead::Read {
+            answer: Answer::PaidBoth {
+                upper_chk,
+                upper_exit,
+                lower_chk,
+                lower_exit,
+                error,
+                upper_state,
+                lower_state,
+                upper_rejects,
+                lower_rejects,
+            },
+            listed: is_listed(error),
+        };
+    }
+    AnswerRead::Refused(Fault::Field)
 }
 
 // 76h, 77h: CHK count, two bytes 30h, error, state, rejects.
@@ -532,16 +534,30 @@ fn read_tested(s: &[u8], cassette: Cassette) -> AnswerRead
     requires { ⌜ 14 ≤ length (now s) ⌝ }
     ensures { λ r. ⌜ r ≡ fieldsRead tested-fields (tested cassette) (now (s .entry)) ⌝ }
 {
-    read_as(
-        Answer::Tested {
-            cassette,
-            chk: count(s, 4),
-            error: s[8],
-            state: s[9],
-            rejects: count(s, 10),
-        },
-        both(s[6] == 0x30, s[7] == 0x30),
-    )
+    let chk = count(s, 4);
+    let error = s[8];
+    let state = s[9];
+    let rejects = count(s, 10);
+    let fixed = both(s[6] == 0x30, s[7] == 0x30);
+    if both(
+        fixed,
+        both(
+            count_within(0, TRIED, chk),
+            ending_fits(error, state, rejects),
+        ),
+    ) {
+        return AnswerRead::Read {
+            answer: Answer::Tested {
+                cassette,
+                chk,
+                error,
+                state,
+                rejects,
+            },
+            listed: is_listed(error),
+        };
+    }
+    AnswerRead::Refused(Fault::Field)
 }
 
 // 46h: 30h, error, sensor 0, sensor 1.
@@ -549,12 +565,18 @@ fn read_status(s: &[u8]) -> AnswerRead
     requires { ⌜ 10 ≤ length (now s) ⌝ }
     ensures { λ r. ⌜ r ≡ fieldsRead status-fields status (now (s .entry)) ⌝ }
 {
-    read_as(
-        Answer::Status {
-            error: s[5],
-            sensor0: s[6],
-            sensor1: s[7],
-        },
-        s[4] == 0x30,
-    )
+    let error = s[5];
+    let sensor0 = s[6];
+    let sensor1 = s[7];
+    if both(s[4] == 0x30, both(is_error(error), is_sensor0(sensor0))) {
+        return AnswerRead::Read {
+            answer: Answer::Status {
+                error,
+                sensor0,
+                sensor1,
+            },
+            listed: is_listed(error),
+        };
+    }
+    AnswerRead::Refused(Fault::Field)
 }

@@ -1,5 +1,5 @@
 -- `dispenser_frame::answer::fits` meets its contract, kind by kind of answer. Assumes nothing.
-use mathlib.Core.Bool.{and-true, and-false, and-assoc}
+use mathlib.Core.Bool.{and-true, and-assoc}
 use Rattle.dispenser_frame.specs.Layout.{allInRange}
 use Rattle.dispenser_frame.specs.Table.{table, lineIn}
 use Rattle.dispenser_frame.specs.Answer.{answerFits}
@@ -39,59 +39,35 @@ passed-requires-3 c κs = search needs
 both-requires-2 : tie.Need-both-requires-2
 both-requires-2 c κs = search needs
 
-is-state-requires : tie.Need-is-state-requires
-is-state-requires c κs = search needs
-
-is-state-requires-2 : tie.Need-is-state-requires-2
-is-state-requires-2 c κs = search needs
+endings-fit-requires : tie.Need-endings-fit-requires
+endings-fit-requires c κs = search needs
 
 both-requires-3 : tie.Need-both-requires-3
 both-requires-3 c κs = search needs
 
-count-within-requires : tie.Need-count-within-requires
-count-within-requires c κs = search needs
-
-count-within-requires-2 : tie.Need-count-within-requires-2
-count-within-requires-2 c κs = search needs
-
-both-requires-4 : tie.Need-both-requires-4
-both-requires-4 c κs = search needs
-
-is-error-requires-2 : tie.Need-is-error-requires-2
-is-error-requires-2 c κs = search needs
-
-both-requires-5 : tie.Need-both-requires-5
-both-requires-5 c κs = search needs
-
-both-requires-6 : tie.Need-both-requires-6
-both-requires-6 c κs = search needs
-
-both-requires-7 : tie.Need-both-requires-7
-both-requires-7 c κs = search needs
-
 enum-known-answer-4 : tie.Need-enum-known-answer-4
 enum-known-answer-4 c = search needs
 
-count-within-requires-3 : tie.Need-count-within-requires-3
-count-within-requires-3 c κs = search needs
+count-within-requires : tie.Need-count-within-requires
+count-within-requires c κs = search needs
 
 ending-fits-requires-2 : tie.Need-ending-fits-requires-2
 ending-fits-requires-2 c κs = search needs
 
-both-requires-8 : tie.Need-both-requires-8
-both-requires-8 c κs = search needs
+both-requires-4 : tie.Need-both-requires-4
+both-requires-4 c κs = search needs
 
 enum-known-answer-5 : tie.Need-enum-known-answer-5
 enum-known-answer-5 c = search needs
 
-is-error-requires-3 : tie.Need-is-error-requires-3
-is-error-requires-3 c κs = search needs
+is-error-requires-2 : tie.Need-is-error-requires-2
+is-error-requires-2 c κs = search needs
 
 is-sensor0-requires : tie.Need-is-sensor0-requires
 is-sensor0-requires c κs = search needs
 
-both-requires-9 : tie.Need-both-requires-9
-both-requires-9 c κs = search needs
+both-requires-5 : tie.Need-both-requires-5
+both-requires-5 c κs = search needs
 
 returns : tie.Need-returns
 unfolding answerFits allInRange table lineIn
@@ -103,18 +79,18 @@ returns-2 c = rw (c .before .before .before .before .answer2 .given .1) (simp (p
 
 returns-3 : tie.Need-returns-3
 unfolding answerFits allInRange table lineIn
-returns-3 c = rw (c .before .before .before .before .before .before .before .before .before .before .before .before .before .before .answer3 .given .1) (simp (c .before .before .before .before .before .before .before .before .before .before .both2 .ensures, c .before .before .before .before .before .before .before .both3 .ensures, c .before .before .before .before .both4 .ensures, c .before .before .both5 .ensures, c .before .both6 .ensures, c .both7 .ensures, c .before .before .before .before .before .before .before .before .before .before .before .before .passed2 .ensures, c .before .before .before .before .before .before .before .before .before .before .before .passed3 .ensures, c .before .before .before .is-error2 .ensures, c .before .before .before .before .before .before .before .before .before .is-state .ensures, c .before .before .before .before .before .before .before .before .is-state2 .ensures, c .before .before .before .before .before .before .count-within .ensures, c .before .before .before .before .before .count-within2 .ensures, and-assoc, and-true))
+returns-3 c = rw (c .before .before .before .before .before .before .answer3 .given .1) (simp (c .both3 .ensures, c .before .endings-fit .ensures, c .before .before .both2 .ensures, c .before .before .before .passed3 .ensures, c .before .before .before .before .passed2 .ensures, and-assoc))
 
 returns-4 : tie.Need-returns-4
 unfolding answerFits allInRange table lineIn
-returns-4 c = rw (c .before .before .before .before .answer4 .given .1) (simp (test-fields, c .both8 .ensures, c .before .before .count-within3 .ensures, c .before .ending-fits2 .ensures, and-assoc))
+returns-4 c = rw (c .before .before .before .before .answer4 .given .1) (simp (test-fields, c .both4 .ensures, c .before .before .count-within .ensures, c .before .ending-fits2 .ensures, and-assoc))
 
 returns-5 : tie.Need-returns-5
 unfolding answerFits allInRange table lineIn
 returns-5 c =
     let k = c .before .before .before .known-told5 .given in
     let b = any-byte (c .before .before .before .before .answer5 .given .0 .1 .1 .0) (omega arith) in
-    rw (c .before .before .before .before .answer5 .given .1) (simp (b, c .both9 .ensures, c .before .before .is-error3 .ensures, c .before .is-sensor0 .ensures, and-true))
+    rw (c .before .before .before .before .answer5 .given .1) (simp (b, c .both5 .ensures, c .before .before .is-error2 .ensures, c .before .is-sensor0 .ensures, and-true))
 
 pub fits-spec : {M : Type 1} → statement M
 fits-spec =
@@ -130,24 +106,16 @@ fits-spec =
     passed-requires-2
     passed-requires-3
     both-requires-2
-    is-state-requires
-    is-state-requires-2
+    endings-fit-requires
     both-requires-3
-    count-within-requires
-    count-within-requires-2
-    both-requires-4
-    is-error-requires-2
-    both-requires-5
-    both-requires-6
-    both-requires-7
     enum-known-answer-4
-    count-within-requires-3
+    count-within-requires
     ending-fits-requires-2
-    both-requires-8
+    both-requires-4
     enum-known-answer-5
-    is-error-requires-3
+    is-error-requires-2
     is-sensor0-requires
-    both-requires-9
+    both-requires-5
     returns
     returns-2
     returns-3

@@ -1,10 +1,11 @@
 -- `dispenser_frame::answer::read_paid_both` meets its contract, field by field. Assumes nothing.
-use mathlib.Core.Path.{sym, _∙_}
+use mathlib.Core.Path.{_≡_, _∙_}
+use mathlib.Core.Bool.{and-assoc}
 use lib.Dec.{lit<}
-use Rattle.dispenser_frame.specs.Table.{paid-both, paid-both-fields, table, lineIn}
-use Rattle.dispenser_frame.specs.Answer.{answerFits}
+use Rattle.dispenser_frame.specs.Layout.{allInRange}
+use Rattle.dispenser_frame.specs.Table.{paid-both, paid-both-fields}
 use Rattle.dispenser_frame.specs.Parts.{rawValues}
-use Rattle.dispenser_frame.proofs.Raw.{fields-raw}
+use Rattle.dispenser_frame.proofs.Raw.{fields-good, fields-bad}
 use native.Mathlib.Omega.{arith}
 use borrow.Author.Needs.{needs}
 use Rattle.dispenser_frame.proofs.answer.read_paid_both.Statement.{statement}
@@ -22,14 +23,14 @@ count-requires-3 c κs = search needs
 count-requires-4 : tie.Need-count-requires-4
 count-requires-4 c κs = search needs
 
-shared-slice-read-t7 : tie.Need-shared-slice-read-t7
-shared-slice-read-t7 c = search needs
+shared-slice-read-error : tie.Need-shared-slice-read-error
+shared-slice-read-error c = search needs
 
-shared-slice-read-t9 : tie.Need-shared-slice-read-t9
-shared-slice-read-t9 c = search needs
+shared-slice-read-upper-state : tie.Need-shared-slice-read-upper-state
+shared-slice-read-upper-state c = search needs
 
-shared-slice-read-t11 : tie.Need-shared-slice-read-t11
-shared-slice-read-t11 c = search needs
+shared-slice-read-lower-state : tie.Need-shared-slice-read-lower-state
+shared-slice-read-lower-state c = search needs
 
 count-requires-5 : tie.Need-count-requires-5
 count-requires-5 c κs = search needs
@@ -37,14 +38,35 @@ count-requires-5 c κs = search needs
 count-requires-6 : tie.Need-count-requires-6
 count-requires-6 c κs = search needs
 
-read-as-requires : tie.Need-read-as-requires
-read-as-requires c κs = search needs
+passed-requires : tie.Need-passed-requires
+passed-requires c κs = search needs
+
+passed-requires-2 : tie.Need-passed-requires-2
+passed-requires-2 c κs = search needs
+
+both-requires : tie.Need-both-requires
+both-requires c κs = search needs
+
+endings-fit-requires : tie.Need-endings-fit-requires
+endings-fit-requires c κs = search needs
+
+both-requires-2 : tie.Need-both-requires-2
+both-requires-2 c κs = search needs
+
+is-listed-requires : tie.Need-is-listed-requires
+is-listed-requires c κs = search needs
+
+-- the test is that of the fields' ranges
+ranges : (c : tie.After-both2) → allInRange paid-both-fields (rawValues paid-both-fields 4 (c .before .before .before .before .before .before .before .before .before .before .before .before .before .before .before .args .s .now)) .test ≡ c .both2 .result
+unfolding allInRange rawValues
+ranges c = simp (c .both2 .ensures, c .before .endings-fit .ensures, c .before .before .both .ensures, c .before .before .before .passed2 .ensures, c .before .before .before .before .passed .ensures, c .before .before .before .before .before .count6 .ensures, c .before .before .before .before .before .before .count5 .ensures, c .before .before .before .before .before .before .before .before .before .before .count4 .ensures, c .before .before .before .before .before .before .before .before .before .before .before .count3 .ensures, c .before .before .before .before .before .before .before .before .before .before .before .before .count2 .ensures, c .before .before .before .before .before .before .before .before .before .before .before .before .before .count .ensures, and-assoc)
 
 returns : tie.Need-returns
-unfolding answerFits rawValues table lineIn
-returns c =
-    c .read-as .ensures
-    ∙ sym (fields-raw paid-both-fields paid-both (c .before .before .before .before .before .before .before .before .before .before .before .args .s .now) (lit< tt, (lit< tt, (lit< tt, (lit< tt, (lit< tt, (lit< tt, tt)))))) ∙ simp (← c .before .before .before .before .before .before .before .before .before .count .ensures, ← c .before .before .before .before .before .before .before .before .count2 .ensures, ← c .before .before .before .before .before .before .before .count3 .ensures, ← c .before .before .before .before .before .before .count4 .ensures, ← c .before .before .count5 .ensures, ← c .before .count6 .ensures))
+unfolding rawValues
+returns c = simp (c .is-listed .ensures, c .before .before .before .before .before .before .before .count6 .ensures, c .before .before .before .before .before .before .before .before .count5 .ensures, c .before .before .before .before .before .before .before .before .before .before .before .before .count4 .ensures, c .before .before .before .before .before .before .before .before .before .before .before .before .before .count3 .ensures, c .before .before .before .before .before .before .before .before .before .before .before .before .before .before .count2 .ensures, c .before .before .before .before .before .before .before .before .before .before .before .before .before .before .before .count .ensures) (fields-good paid-both-fields paid-both _ (lit< tt, (lit< tt, (lit< tt, (lit< tt, (lit< tt, (lit< tt, tt)))))) (ranges (c .before .before) ∙ c .before .if1 .taken))
+
+returns-2 : tie.Need-returns-2
+returns-2 c = fields-bad paid-both-fields paid-both _ (lit< tt, (lit< tt, (lit< tt, (lit< tt, (lit< tt, (lit< tt, tt)))))) (ranges (c .before) ∙ c .if1 .left)
 
 pub read-paid-both-spec : {M : Type 1} → statement M
 read-paid-both-spec =
@@ -54,10 +76,16 @@ read-paid-both-spec =
     count-requires-2
     count-requires-3
     count-requires-4
-    shared-slice-read-t7
-    shared-slice-read-t9
-    shared-slice-read-t11
+    shared-slice-read-error
+    shared-slice-read-upper-state
+    shared-slice-read-lower-state
     count-requires-5
     count-requires-6
-    read-as-requires
-    returns)
+    passed-requires
+    passed-requires-2
+    both-requires
+    endings-fit-requires
+    both-requires-2
+    is-listed-requires
+    returns
+    returns-2)

@@ -1,11 +1,11 @@
 -- `dispenser_frame::answer::read_paid_one` meets its contract, field by field. Assumes nothing.
-use mathlib.Core.Path.{sym, _∙_}
+use mathlib.Core.Path.{_≡_, _∙_}
+use mathlib.Core.Bool.{and-assoc}
 use lib.Dec.{lit<}
+use Rattle.dispenser_frame.specs.Layout.{allInRange}
 use Rattle.dispenser_frame.specs.Table.{paid-one, paid-one-fields}
-use Rattle.dispenser_frame.specs.Answer.{answerFits}
 use Rattle.dispenser_frame.specs.Parts.{rawValues}
-use Rattle.dispenser_frame.proofs.Raw.{fields-raw}
-use Rattle.dispenser_frame.proofs.Codes.{pay-fields}
+use Rattle.dispenser_frame.proofs.Raw.{fields-good, fields-bad}
 use native.Mathlib.Omega.{arith}
 use borrow.Author.Needs.{needs}
 use Rattle.dispenser_frame.proofs.answer.read_paid_one.Statement.{statement}
@@ -17,23 +17,38 @@ count-requires c κs = search needs
 count-requires-2 : tie.Need-count-requires-2
 count-requires-2 c κs = search needs
 
-shared-slice-read-t6 : tie.Need-shared-slice-read-t6
-shared-slice-read-t6 c = search needs
+shared-slice-read-error : tie.Need-shared-slice-read-error
+shared-slice-read-error c = search needs
 
-shared-slice-read-t8 : tie.Need-shared-slice-read-t8
-shared-slice-read-t8 c = search needs
+shared-slice-read-state : tie.Need-shared-slice-read-state
+shared-slice-read-state c = search needs
 
 count-requires-3 : tie.Need-count-requires-3
 count-requires-3 c κs = search needs
 
-read-as-requires : tie.Need-read-as-requires
-read-as-requires c κs = search needs
+passed-requires : tie.Need-passed-requires
+passed-requires c κs = search needs
+
+ending-fits-requires : tie.Need-ending-fits-requires
+ending-fits-requires c κs = search needs
+
+both-requires : tie.Need-both-requires
+both-requires c κs = search needs
+
+is-listed-requires : tie.Need-is-listed-requires
+is-listed-requires c κs = search needs
+
+-- the test is that of the fields' ranges
+ranges : (c : tie.After-both) → allInRange paid-one-fields (rawValues paid-one-fields 4 (c .before .before .before .before .before .before .before .before .before .args .s .now)) .test ≡ c .both .result
+unfolding allInRange rawValues
+ranges c = simp (c .both .ensures, c .before .ending-fits .ensures, c .before .before .passed .ensures, c .before .before .before .count3 .ensures, c .before .before .before .before .before .before .count2 .ensures, c .before .before .before .before .before .before .before .count .ensures, and-assoc)
 
 returns : tie.Need-returns
-unfolding answerFits rawValues
-returns c =
-    c .read-as .ensures
-    ∙ sym (fields-raw paid-one-fields (paid-one (c .before .before .before .before .before .before .before .args .cassette)) (c .before .before .before .before .before .before .before .args .s .now) (lit< tt, (lit< tt, (lit< tt, tt))) ∙ simp (pay-fields, ← c .before .before .before .before .before .count .ensures, ← c .before .before .before .before .count2 .ensures, ← c .before .count3 .ensures))
+unfolding rawValues
+returns c = simp (c .is-listed .ensures, c .before .before .before .before .before .count3 .ensures, c .before .before .before .before .before .before .before .before .count2 .ensures, c .before .before .before .before .before .before .before .before .before .count .ensures) (fields-good paid-one-fields (paid-one _) _ (lit< tt, (lit< tt, (lit< tt, tt))) (ranges (c .before .before) ∙ c .before .if1 .taken))
+
+returns-2 : tie.Need-returns-2
+returns-2 c = fields-bad paid-one-fields (paid-one _) _ (lit< tt, (lit< tt, (lit< tt, tt))) (ranges (c .before) ∙ c .if1 .left)
 
 pub read-paid-one-spec : {M : Type 1} → statement M
 read-paid-one-spec =
@@ -41,8 +56,12 @@ read-paid-one-spec =
     (tie.spec
     count-requires
     count-requires-2
-    shared-slice-read-t6
-    shared-slice-read-t8
+    shared-slice-read-error
+    shared-slice-read-state
     count-requires-3
-    read-as-requires
-    returns)
+    passed-requires
+    ending-fits-requires
+    both-requires
+    is-listed-requires
+    returns
+    returns-2)
