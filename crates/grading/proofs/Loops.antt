@@ -19,8 +19,8 @@ use Rattle.recording.specs.declared.Fault.{Fault}
 use Rattle.recording.specs.declared.Fault.the-variants.{Long}
 use Rattle.recording.specs.declared.Record.{Record}
 use Rattle.recording.specs.declared.Record.the-variants.{Request, DispenserByte, Tick, ValidatorByte, Command}
-use Rattle.recording.specs.declared.Found.{Found}
-use Rattle.recording.specs.declared.Found.the-variants.{Whole, Bad}
+use Rattle.recording.specs.declared.taking.Found.{Found}
+use Rattle.recording.specs.declared.taking.Found.the-variants.{Whole, Bad}
 use Rattle.recording.proofs.Folds.{reading-end, reading-short, reading-long}
 use Rattle.recording.proofs.Starts.{whole-read, bad-read}
 use Rattle.grading.specs.Replay.{Desk, freshDesk, declines, declinesToo, given, run, told, badFindings, replayed, replayOf, joined}

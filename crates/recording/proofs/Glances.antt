@@ -24,8 +24,8 @@ use Rattle.recording.specs.declared.Reader.{Reader}
 use Rattle.recording.specs.declared.Took.{Took}
 use Rattle.recording.specs.declared.Heard.{Heard}
 use Rattle.recording.specs.declared.Heard.the-variants.{More, Whole as WholeRecord, Bad as Faulty}
-use Rattle.recording.specs.declared.Found.{Found}
-use Rattle.recording.specs.declared.Found.the-variants.{Whole, Bad}
+use Rattle.recording.specs.declared.taking.Found.{Found}
+use Rattle.recording.specs.declared.taking.Found.the-variants.{Whole, Bad}
 use Rattle.recording.proofs.Places.{within, Inside, begun-byte}
 
 -- ---- the fold

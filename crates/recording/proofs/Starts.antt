@@ -27,8 +27,8 @@ use Rattle.recording.specs.declared.Place.{Place}
 use Rattle.recording.specs.declared.Place.the-variants.{Kind, Code, Upper, Lower, FromDispenser, Milliseconds, FromValidator, ToValidator}
 use Rattle.recording.specs.declared.Reader.{Reader}
 use Rattle.recording.specs.declared.Took.{Took}
-use Rattle.recording.specs.declared.Found.{Found}
-use Rattle.recording.specs.declared.Found.the-variants.{Whole, Bad}
+use Rattle.recording.specs.declared.taking.Found.{Found}
+use Rattle.recording.specs.declared.taking.Found.the-variants.{Whole, Bad}
 use Rattle.recording.proofs.Places.{within, Inside, begun-byte, begun-ended}
 use Rattle.recording.proofs.Folds.{reading-nil, reading-cons}
 use Rattle.recording.proofs.Glances.{found-nil, found-step}

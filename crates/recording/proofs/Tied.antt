@@ -9,8 +9,8 @@ use Rattle.recording.proofs.Reader.byte.Kinds as byte
 use Rattle.recording.proofs.Reader.byte.Reads as byte-reads
 use Rattle.recording.proofs.Reader.ended.Kinds as ended
 use Rattle.recording.proofs.Reader.ended.Reads as ended-reads
-use Rattle.recording.proofs.record_at.Kinds as record-at
-use Rattle.recording.proofs.record_at.Reads as record-at-reads
+use Rattle.recording.proofs.taking.record_at.Kinds as record-at
+use Rattle.recording.proofs.taking.record_at.Reads as record-at-reads
 use Rattle.recording.proofs.judge.Kinds as judge
 use Rattle.recording.proofs.judge.Reads as judge-reads
 

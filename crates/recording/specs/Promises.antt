@@ -14,7 +14,7 @@ use Rattle.recording.specs.Taking.{foundAt}
 use Rattle.recording.specs.declared.Fault.{Fault}
 use Rattle.recording.specs.declared.Fault.the-variants.{BadNumber, Cut, Unknown, Long}
 use Rattle.recording.specs.declared.Record.{Record}
-use Rattle.recording.specs.declared.Found.the-variants.{Whole, Bad}
+use Rattle.recording.specs.declared.taking.Found.the-variants.{Whole, Bad}
 
 -- why no record stands at the start of these bytes: an unknown kind; its numbers ns, and not the values that its kind takes; fewer numbers than
 -- it has, and then bytes that are no number, or an end before the last group of one

@@ -10,10 +10,10 @@ use Rattle.recording.specs.declared.Place.the-variants.{Code, Lower, Fro
 use Rattle.recording.specs.declared.Reader.{Reader}
 use Rattle.recording.specs.declared.Heard.{Heard}
 use Rattle.recording.specs.declared.Heard.the-variants.{More, Whole as WholeRecord, Bad as Faulty}
-use Rattle.recording.specs.declared.Found.{Found}
-use Rattle.recording.specs.declared.Found.the-variants.{Whole, Bad}
-use Rattle.recording.specs.declared.Glance.{Glance}
-use Rattle.recording.specs.declared.Glance.the-variants.{Sure, Longer}
+use Rattle.recording.specs.declared.taking.Found.{Found}
+use Rattle.recording.specs.declared.taking.Found.the-variants.{Whole, Bad}
+use Rattle.recording.specs.declared.taking.Glance.{Glance}
+use Rattle.recording.specs.declared.taking.Glance.the-variants.{Sure, Longer}
 
 -- what the n-th byte of a record settles: the record, which has n bytes; a fault; or nothing yet
 abbrev pub settled : Heard → ℕ → Found → Found

@@ -1,4 +1,4 @@
--- `recording::byte_by_byte` meets its contract. The invariant: the reader goes on from i to what is found at the record's start. Assumes nothing.
+-- `recording::taking::byte_by_byte` meets its contract. The invariant: the reader goes on from i to what is found at the record's start. Assumes nothing.
 use mathlib.Core.Path.{_≡_, refl, sym, ap, _∙_}
 use Prim.Native.Nat.{_+_, _-_, _≤_}
 use lib.ListN.{length, drop}
@@ -6,8 +6,8 @@ use Rattle.recording.specs.Taking.{foundFrom, foundAt}
 use Rattle.recording.proofs.Glances.{found-start, goes-on, is-whole, is-bad, found-end}
 use borrow.Author.Needs.{needs}
 use native.Mathlib.Omega.{arith}
-use Rattle.recording.proofs.byte_by_byte.Statement.{statement}
-use Rattle.recording.proofs.byte_by_byte.Tie as tie
+use Rattle.recording.proofs.taking.byte_by_byte.Statement.{statement}
+use Rattle.recording.proofs.taking.byte_by_byte.Tie as tie
 
 abbrev Inv-loop : tie.InvT-loop
 Inv-loop recording at reader₀ i₀ reader i = (at ≤ i) × (foundFrom reader i (i - at) (drop i recording) ≡ foundAt recording at)

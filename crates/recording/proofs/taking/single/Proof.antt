@@ -1,4 +1,4 @@
--- `recording::single` meets its contract, kind by kind. Assumes nothing.
+-- `recording::taking::single` meets its contract, kind by kind. Assumes nothing.
 use mathlib.Core.Path.{_≡_, refl, sym, ap, _∙_}
 use Prim.Native.Nat.{_<_}
 use borrow.Author.Tests.{lt-ltb, le-ltb}
@@ -6,8 +6,8 @@ use Rattle.recording.specs.Reading.{byteRead, commandRead}
 use Rattle.recording.proofs.Lists.{listed-same}
 use Rattle.recording.proofs.Glances.{other-place}
 use borrow.Author.Needs.{needs}
-use Rattle.recording.proofs.single.Statement.{statement}
-use Rattle.recording.proofs.single.Tie as tie
+use Rattle.recording.proofs.taking.single.Statement.{statement}
+use Rattle.recording.proofs.taking.single.Tie as tie
 
 returns : tie.Need-returns
 returns c = λ r rest. rw (c .if1 .taken) refl

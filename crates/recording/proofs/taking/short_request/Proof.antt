@@ -1,11 +1,11 @@
--- `recording::short_request` meets its contract. Assumes nothing.
+-- `recording::taking::short_request` meets its contract. Assumes nothing.
 use mathlib.Core.Path.{_≡_, refl, sym, ap, _∙_}
 use Prim.Native.Nat.{_<_}
 use native.Mathlib.Nat.{mod-eq-of-lt}
 use Rattle.recording.specs.Reading.{requestRead}
 use borrow.Author.Needs.{needs}
-use Rattle.recording.proofs.short_request.Statement.{statement}
-use Rattle.recording.proofs.short_request.Tie as tie
+use Rattle.recording.proofs.taking.short_request.Statement.{statement}
+use Rattle.recording.proofs.taking.short_request.Tie as tie
 
 is-request-requires : tie.Need-is-request-requires
 is-request-requires c κs = search needs

@@ -1,10 +1,10 @@
--- `recording::record_at` meets its contract. Assumes nothing.
+-- `recording::taking::record_at` meets its contract. Assumes nothing.
 use mathlib.Core.Path.{_≡_, subst}
 use Rattle.recording.specs.Taking.{foundAt, sure}
-use Rattle.recording.specs.declared.Glance.{Glance}
+use Rattle.recording.specs.declared.taking.Glance.{Glance}
 use borrow.Author.Needs.{needs}
-use Rattle.recording.proofs.record_at.Statement.{statement}
-use Rattle.recording.proofs.record_at.Tie as tie
+use Rattle.recording.proofs.taking.record_at.Statement.{statement}
+use Rattle.recording.proofs.taking.record_at.Tie as tie
 
 at-a-glance-requires : tie.Need-at-a-glance-requires
 at-a-glance-requires c κs = search needs
