@@ -1,27 +1,8 @@
--- No contract of this crate leaves a choice: two outcomes that it allows for the same arguments coincide, in the result and in every
--- byte of a lent room. Said of the contracts themselves, since each is one equation. Assumes nothing.
-use Prim.Native.Nat.{ℕ}
-use mathlib.Core.Path.{ap}
-use mathlib.Core.List.{List}
-use denote.Ref.{now}
-use Rattle.numbers.specs.declared.Put.{Put}
+-- The contract of `replay` leaves no choice: two outcomes that it allows for the same recording coincide. Said of the contract itself, since it is
+-- one equation. Assumes nothing.
 use Rattle.numbers.proofs.Tied.{Tied, tied}
 use Rattle.grading.proofs.desk.replay.Kinds as replay
 use Rattle.grading.proofs.desk.replay.Reads as replay-reads
-use Rattle.grading.proofs.text.write_report.Kinds as write-report
-use Rattle.grading.proofs.text.write_report.Reads as write-report-reads
-use Rattle.grading.proofs.text.report.Kinds as report
-use Rattle.grading.proofs.text.report.Reads as report-reads
 
 pub replay-tied : Tied replay.ps replay.r replay-reads.Post (λ κs x e. x)
 replay-tied = tied replay.ps replay.r replay-reads.Post (λ κs x e. x) _ (λ κs a x e p. p)
-
-pub write-report-tied : Tied write-report.ps write-report.r write-report-reads.Post {A = Put × List ℕ} (λ κs x e. (x, now (e .1 .0)))
-write-report-tied =
-    tied write-report.ps write-report.r write-report-reads.Post {A = Put × List ℕ} (λ κs x e. (x, now (e .1 .0))) _
-    (λ κs a x e p. ap (λ w. (w .answer, w .room)) p)
-
-pub report-tied : Tied report.ps report.r report-reads.Post {A = Put × List ℕ} (λ κs x e. (x, now (e .1 .0)))
-report-tied =
-    tied report.ps report.r report-reads.Post {A = Put × List ℕ} (λ κs x e. (x, now (e .1 .0))) _
-    (λ κs a x e p. ap (λ w. (w .answer, w .room)) p)

@@ -1,5 +1,4 @@
--- What is promised of a replay and its report: the calls that a recording makes on each session, and what their history gives. Proved in
--- proofs/Recorded.antt and proofs/Enough.antt.
+-- What is promised of a replay: the calls that a recording makes on each session, and what their history gives. Proved in proofs/Recorded.antt.
 -- A name that ends in Too is the validator session's, the same without it the dispenser session's.
 use Prim.Native.Nat.{ℕ, _+_, _≤_, _<_}
 use mathlib.Core.Path.{_≡_}
@@ -7,7 +6,6 @@ use mathlib.Core.Bool.{Bool, cond, _||_}
 use mathlib.Core.List.{List, [], _∷_, _++_}
 use native.Mathlib.Omega.{arith}
 use lib.ListN.{length, getD}
-use Rattle.numbers.specs.Promises.{Bytes}
 use Rattle.ledger.specs.Account.{Balanced, sums}
 use Rattle.dispenser_frame.specs.declared.answer.Cassette.{Cassette}
 use Rattle.dispenser.specs.Session.{sessionRequest, sessionByte, sessionTick}
@@ -22,9 +20,7 @@ use Rattle.recording.specs.Record.{InRange, AllInRange}
 use Rattle.recording.specs.Reading.{records, readRecording}
 use Rattle.recording.specs.declared.Record.{Record}
 use Rattle.recording.specs.declared.Record.the-variants.{Request, DispenserByte, Tick, ValidatorByte, Command}
-use Rattle.grading.specs.Text.{longest}
 use Rattle.grading.specs.Replay.{Desk, freshDesk, declines, declinesToo, given, replayOf}
-use Rattle.grading.specs.Report.{reportOf}
 
 -- ---- the calls that records make
 
@@ -68,7 +64,7 @@ unfoldable pub refusals : Desk → List Record → ℕ
 refusals d [] = 0
 refusals d (x ∷ xs) = cond (refuses d x) 1 0 + refusals (given d x) xs
 
--- ---- what the report tells of a good recording with the records xs
+-- ---- what a good recording with the records xs leaves for its report
 
 pub record Recorded (s : List ℕ) (xs : List Record) (i : AllInRange xs) : Type 0 where
   -- the sums are those of demand 3, for the calls that the recording makes, and they balance
@@ -82,9 +78,3 @@ pub record Recorded (s : List ℕ) (xs : List Record) (i : AllInRange xs) : Type
 
 abbrev pub AsRecorded : Type 0
 AsRecorded = (s : List ℕ) (xs : List Record) → readRecording s ≡ records xs → (i : AllInRange xs) → Recorded s xs i
-
--- ---- the longest report
-
--- a room of so many bytes is enough for the report of any recording
-abbrev pub Enough : Type 0
-Enough = (s : List ℕ) → Bytes s → length (reportOf s) ≤ longest

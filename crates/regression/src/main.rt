@@ -80,8 +80,8 @@ fn front<'a>(text: &'a [u8], n: usize) -> &'a [u8] {
 
 // Holds the report of a recording to the one that it must give.
 fn hold(name: &[u8], recording: &[u8], wanted: &[u8]) {
-    let mut room = [0u8; grading::LONGEST];
-    match grading::report(recording, &mut room) {
+    let mut room = [0u8; report::LONGEST];
+    match report::report(recording, &mut room) {
         Put::Bytes(n) => say(name, front(&room, n), wanted),
         Put::Refused(_) => {
             io::write_all(STDERR_FILENO, b"no room for the report\n");

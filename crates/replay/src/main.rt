@@ -60,8 +60,8 @@ fn replay_from(fd: i32, name: &[u8]) {
 
 // The report of a recording, written out.
 fn show(recording: &[u8]) {
-    let mut room = [0u8; grading::LONGEST];
-    match grading::report(recording, &mut room) {
+    let mut room = [0u8; report::LONGEST];
+    match report::report(recording, &mut room) {
         Put::Bytes(n) => print(&room, n),
         Put::Refused(_) => {}
     }

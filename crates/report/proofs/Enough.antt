@@ -1,0 +1,216 @@
+-- The longest report: no number in it has more than ten digits, and no type more than two. Assumes nothing.
+use Prim.Native.Nat.{ℕ, zero, suc, _+_, _*_, _≤_, _<_}
+use mathlib.Core.Path.{_≡_, refl, sym, ap, _∙_, subst}
+use mathlib.Core.Bool.{Bool, true, false, cond}
+use mathlib.Core.List.{List, [], _∷_, _++_}
+use native.Mathlib.Omega.{arith}
+use Prim.Native.String.{String}
+use lib.Dec.{ltb}
+use lib.ListN.{length, getD, set, length-append, length-set}
+use Rattle.numbers.specs.Rules.{under, same}
+use Rattle.numbers.specs.Promises.{Bytes}
+use Rattle.numbers.specs.Decimal.{decimal}
+use Rattle.numbers.proofs.Rules.{by-cases}
+use Rattle.dispenser.specs.Calls.{Bounded, run as ran}
+use Rattle.dispenser.specs.Session.{freshSession}
+use Rattle.dispenser.specs.declared.account.Sums.{Sums}
+use Rattle.dispenser.specs.declared.account.Account.{Account}
+use Rattle.dispenser.specs.declared.session.Session.{Session}
+use Rattle.dispenser.proofs.Keeping.{never-cut}
+use Rattle.validator.specs.Limits.{types}
+use Rattle.validator.specs.Bills.{bills, bookedBy, noBills, plus}
+use Rattle.validator.specs.Session.{freshSession as freshToo, sessionRequest as requestToo, sessionByte as byteToo, sessionTick as tickToo, byteStep, tickStep}
+use Rattle.validator.specs.declared.bills.Bills.{Bills}
+use Rattle.validator.proofs.Agreeing.{kept-by-history}
+use Rattle.recording.specs.Record.{mostBytes, faultNumber, recordBytes, laid, AllInRange}
+use Rattle.recording.specs.Reading.{Reading, records, bad, readRecording}
+use Rattle.recording.specs.Promises.{Breaks}
+use Rattle.recording.specs.declared.Fault.{Fault}
+use Rattle.recording.specs.declared.Fault.the-variants.{BadNumber, Cut, Unknown, Long}
+use Rattle.recording.specs.declared.Record.{Record}
+use Rattle.recording.specs.declared.Record.the-variants.{Request, DispenserByte, Tick, ValidatorByte, Command}
+use Rattle.recording.proofs.Exact.{exactly-when}
+use Rattle.recording.proofs.Back.{length-record}
+use Rattle.recording.proofs.Folds.{reading-long}
+use Rattle.report.specs.Text.{bytesOf, longest}
+use Rattle.grading.specs.Replay.{Desk, freshDesk, given, run, told, badFindings, replayed, replayOf}
+use Rattle.report.specs.Report.{field, line, lines, paidPart, unpaidPart, sumsLine, typeLine, typeLines, goodLines, badLine, reportText, reportOf}
+use Rattle.grading.specs.Promises.{calls, callsToo, refuses, refusals}
+use Rattle.report.specs.Promises.{Enough}
+use Rattle.grading.specs.declared.desk.Findings.{Findings}
+use Rattle.report.proofs.Adding.{ten}
+use Rattle.report.proofs.Lines.{lines-none, lines-one, lines-more, lines-append, two, type-none, type-seen, types-nil, types-cons}
+use Rattle.grading.proofs.Recorded.{good-replay, session-ran, as-recorded}
+
+abbrev end32 : ℕ
+end32 = 4_294_967_296
+
+-- ---- the length of each line
+
+field-most : (w : List ℕ) (n : ℕ) → n < end32 → length (w ++ decimal n) ≤ length w + 10
+field-most w n h = simp length-append (omega (arith, ten n h))
+
+line-length : (l : List ℕ) → length (line l) ≡ length l + 1
+line-length l = length-append l (0x0A ∷ [])
+
+-- every sum of a cassette is below 2 to the 32nd
+record Few (s : Sums) : Type 0 where
+  asked : s .asked .0 < end32
+  paid : s .paid .0 < end32
+  short : s .short .0 < end32
+  over : s .over .0 < end32
+  refused : s .refused .0 < end32
+  unknown : s .unknown .0 < end32
+  pending : s .pending .0 < end32
+  rejected : s .rejected .0 < end32
+
+bounded-few : (s : Sums) → Bounded 1_000_000 1_000_000 s → Few s
+bounded-few s b =
+    record {
+      asked = omega (arith, b .asked-most);
+      paid = omega (arith, b .paid-most);
+      short = omega (arith, b .short-most);
+      over = omega (arith, b .over-most);
+      refused = omega (arith, b .refused-most);
+      unknown = omega (arith, b .unknown-most);
+      pending = omega (arith, b .pending-most);
+      rejected = omega (arith, b .rejected-most);
+    }
+
+sums-most : (name : List ℕ) (s : Sums) → length name ≤ 5 → Few s → length (line (sumsLine name s)) ≤ 146
+unfolding paidPart unpaidPart
+sums-most name s h f =
+    simp length-append
+    (omega (
+      arith,
+      ten (s .asked .0) (f .asked),
+      ten (s .paid .0) (f .paid),
+      ten (s .short .0) (f .short),
+      ten (s .over .0) (f .over),
+      ten (s .refused .0) (f .refused),
+      ten (s .unknown .0) (f .unknown),
+      ten (s .pending .0) (f .pending),
+      ten (s .rejected .0) (f .rejected),
+    ))
+
+type-most : (y : ℕ) (n : Bills) → y ≤ 23 → n .0 < end32 → length (lines (typeLine y n)) ≤ 25
+type-most y n h l =
+    by-cases (same (n .0) 0)
+    (λ e. rw (type-none y n e) (omega arith))
+    (λ e. rw (type-seen y n e) (simp length-append (omega (arith, two y h, ten (n .0) l))))
+
+types-most : (ns : List Bills) (y : ℕ) → y + length ns ≤ 24 → ((k : ℕ) → k < length ns → getD ns k (bills 0) .0 < end32)
+    → length (lines (typeLines y ns)) ≤ 25 * length ns
+types-most [] y h f = rw (types-nil, lines-none) (omega arith)
+types-most (n ∷ ns) y h f =
+    rw (types-cons, lines-append)
+    (simp length-append
+    (omega (arith, type-most y n (omega arith) (f 0 (omega arith)), types-most ns (suc y) (omega arith) (λ k l. f (suc k) (omega arith)))))
+
+five : (a b c d e : List ℕ) → length (a ++ (b ++ (c ++ (d ++ e)))) ≡ length a + (length b + (length c + (length d + length e)))
+five a b c d e = simp length-append
+
+good-most : (a : Account) (bs : List Bills) (declined all : ℕ) → Few (a .upper) → Few (a .lower) → length bs ≡ 24
+    → ((k : ℕ) → k < 24 → getD bs k (bills 0) .0 < end32) → declined < end32 → all < end32 → length (lines (goodLines a bs declined all)) ≤ longest
+good-most a bs declined all u l n f d r =
+    rw (lines-more, lines-more, lines-more, lines-append, lines-one)
+    (let p = sums-most (bytesOf "upper") (a .upper) (omega arith) u in
+    let q = sums-most (bytesOf "lower") (a .lower) (omega arith) l in
+    let t = types-most bs 0 (omega (arith, n)) (λ k h. f k (omega (arith, n))) in
+    let x : length (line (field "declined " declined)) ≤ 20 = simp length-append (omega (arith, ten declined d)) in
+    let y : length (line (field "records " all)) ≤ 19 = simp length-append (omega (arith, ten all r)) in
+    let e = five (line (sumsLine (bytesOf "upper") (a .upper))) (line (sumsLine (bytesOf "lower") (a .lower))) (line (field "declined " declined)) (lines (typeLines 0 bs)) (line (field "records " all)) in
+    omega (arith, p, q, t, x, y, e, n))
+
+small-number : (why : Fault) → faultNumber why < end32
+small-number BadNumber = omega arith
+small-number Cut = omega arith
+small-number Unknown = omega arith
+small-number Long = omega arith
+
+bad-most : (why : Fault) (at : ℕ) → at < end32 → length (lines (badLine why at ∷ [])) ≤ longest
+bad-most why at h = rw lines-one (simp length-append (omega (arith, ten (faultNumber why) (small-number why), ten at h)))
+
+-- ---- the bills are always of 24 types
+
+booked-length : (bs : List Bills) (y : ℕ) → length (bookedBy bs y) ≡ length bs
+unfolding bookedBy
+booked-length bs y = by (ltb y types)
+  where
+    by : (t : Bool) → length (cond t (set bs y (plus (getD bs y (bills 0)) 1)) bs) ≡ length bs
+    by true = length-set bs y _
+    by false = refl
+
+given-bills : (d : Desk) (x : Record) → length (given d x .validator .bills) ≡ length (d .validator .bills)
+unfolding requestToo byteToo tickToo
+given-bills d (Request code upper lower) = refl
+given-bills d (DispenserByte b) = refl
+given-bills d (Tick ms) = booked-length (d .validator .bills) _
+given-bills d (ValidatorByte b) = booked-length (d .validator .bills) _
+given-bills d (Command code) = refl
+
+bills-ran : (d : Desk) (xs : List Record) → length (run d xs .validator .bills) ≡ length (d .validator .bills)
+unfolding run
+bills-ran d [] = refl
+bills-ran d (x ∷ xs) = bills-ran (given d x) xs ∙ given-bills d x
+
+fresh-bills : length (freshDesk .validator .bills) ≡ 24
+unfolding freshDesk freshToo
+fresh-bills = refl
+
+-- ---- the records are no more than the bytes
+
+laid-many : (xs : List Record) → length xs ≤ length (laid xs)
+unfolding laid
+laid-many [] = omega arith
+laid-many (x ∷ xs) = simp length-append (omega (arith, laid-many xs, length-record x))
+
+one-most : (t : Bool) → cond t 1 0 ≤ 1
+one-most true = omega arith
+one-most false = omega arith
+
+refusals-most : (d : Desk) (xs : List Record) → refusals d xs ≤ length xs
+unfolding refusals
+refusals-most d [] = omega arith
+refusals-most d (x ∷ xs) = omega (arith, one-most (refuses d x), refusals-most (given d x) xs)
+
+-- ---- the report of any recording
+
+good-enough : (s : List ℕ) (xs : List Record) → Bytes s → readRecording s ≡ records xs → length (reportText (replayOf s)) ≤ longest
+unfolding reportText
+good-enough s xs h e =
+    let w = exactly-when .good s xs h .0 e in
+    let r = as-recorded s xs e (w .1) in
+    let cut = never-cut (calls freshDesk xs) in
+    let n : length xs ≤ 65_536 = omega (arith, w .0, laid-many xs, ap length (w .2)) in
+    let c = session-ran xs in
+    let b : (k : ℕ) → k < 24 → getD (run freshDesk xs .validator .bills) k (bills 0) .0 < end32
+    = λ k l. omega (arith, sym (ap (λ (f : Findings). getD (f .bills) k (bills 0) .0) (good-replay s xs e)) ∙ r .bills-told k l, kept-by-history .few (callsToo freshDesk xs (w .1)) k l) in
+    rw (good-replay s xs e)
+    (good-most (run freshDesk xs .dispenser .account) (run freshDesk xs .validator .bills) (run freshDesk xs .declined) (run freshDesk xs .records)
+    (subst (λ (y : Session). Few (y .account .upper)) (sym c) (bounded-few (ran freshSession (calls freshDesk xs) .account .upper) (cut .0)))
+    (subst (λ (y : Session). Few (y .account .lower)) (sym c) (bounded-few (ran freshSession (calls freshDesk xs) .account .lower) (cut .1)))
+    (bills-ran freshDesk xs ∙ fresh-bills)
+    b
+    (omega (arith, n, refusals-most freshDesk xs, sym (ap (λ (f : Findings). f .declined) (good-replay s xs e)) ∙ r .declined))
+    (omega (arith, n, sym (ap (λ (f : Findings). f .records) (good-replay s xs e)) ∙ r .all)))
+
+bad-place : (s : List ℕ) (why : Fault) (at : ℕ) → Bytes s → readRecording s ≡ bad why at → at < end32
+bad-place s why at h e =
+    by-cases (under mostBytes (length s))
+    (λ l. let r : bad Long 0 ≡ bad why at = sym (reading-long s l) ∙ e in let z : 0 ≡ at = cc in omega arith)
+    (λ n.
+    let b = exactly-when .broken s why at h (omega arith) .0 e in
+    omega (arith, b .place, simp length-append at (ap length (b .are))))
+
+bad-enough : (s : List ℕ) (why : Fault) (at : ℕ) → Bytes s → readRecording s ≡ bad why at → length (reportText (replayOf s)) ≤ longest
+unfolding reportText replayOf
+bad-enough s why at h e = rw e (bad-most why at (bad-place s why at h e))
+
+pub enough : Enough
+unfolding reportOf
+enough s h = by (readRecording s) refl
+  where
+    by : (g : Reading) → readRecording s ≡ g → length (reportText (replayOf s)) ≤ longest
+    by (records xs) e = good-enough s xs h e
+    by (bad why at) e = bad-enough s why at h e

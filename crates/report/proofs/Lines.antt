@@ -1,0 +1,122 @@
+-- The lines of a report, one behind the other. Assumes nothing.
+use Prim.Native.Nat.{ℕ, zero, suc, _+_, _≤_, _<_}
+use mathlib.Core.Path.{_≡_, refl, sym, ap, _∙_, subst}
+use mathlib.Core.List.{List, [], _∷_, _++_, append-assoc, append-nil}
+use native.Mathlib.Numerals.{add-one}
+use native.Mathlib.Omega.{arith}
+use lib.ListN.{length, take, getD, length-take}
+use lib.Seq.{take-suc, take-all}
+use borrow.Author.Tests.{eq-eqb, ne-eqb}
+use Rattle.numbers.specs.Decimal.{decimal}
+use Rattle.numbers.proofs.Decimal.{length-decimal, width-least}
+use Rattle.report.specs.Text.{Adds}
+use Rattle.report.specs.Report.{field, line, lines, typeLine, typeLines}
+use Rattle.validator.specs.declared.bills.Bills.{Bills}
+use Rattle.report.proofs.Adding.{adds-then, adds-none}
+
+pub lines-none : lines [] ≡ []
+unfolding lines
+lines-none = refl
+
+pub lines-one : (l : List ℕ) → lines (l ∷ []) ≡ line l
+unfolding lines
+lines-one l = append-nil (line l)
+
+pub lines-more : (l : List ℕ) (ls : List (List ℕ)) → lines (l ∷ ls) ≡ line l ++ lines ls
+unfolding lines
+lines-more l ls = refl
+
+pub lines-append : (ls ms : List (List ℕ)) → lines (ls ++ ms) ≡ lines ls ++ lines ms
+unfolding lines
+lines-append [] ms = refl
+lines-append (l ∷ ls) ms = ap (λ (x : List ℕ). line l ++ x) (lines-append ls ms) ∙ sym (append-assoc (line l) (lines ls) (lines ms))
+
+-- a type has at most two digits
+pub two : (y : ℕ) → y ≤ 23 → length (decimal y) ≤ 2
+two y h = omega (arith, length-decimal y, width-least y 2 (omega arith) (omega arith))
+
+pub type-none : (y : ℕ) (n : Bills) → n .0 ≡ 0 → lines (typeLine y n) ≡ []
+unfolding typeLine
+type-none y n e = rw (eq-eqb (n .0) 0 e) lines-none
+
+pub type-seen : (y : ℕ) (n : Bills) → (n .0 ≡ 0 → ⊥) → lines (typeLine y n) ≡ line (field "type " y ++ field " bills " (n .0))
+unfolding typeLine
+type-seen y n e = rw (ne-eqb (n .0) 0 e) (lines-one (field "type " y ++ field " bills " (n .0)))
+
+pub types-nil : (k : ℕ) → typeLines k [] ≡ []
+unfolding typeLines
+types-nil k = refl
+
+pub types-cons : (k : ℕ) (n : Bills) (ns : List Bills) → typeLines k (n ∷ ns) ≡ typeLine k n ++ typeLines (suc k) ns
+unfolding typeLines
+types-cons k n ns = refl
+
+-- one type more
+types-snoc : (k : ℕ) (ns : List Bills) (n : Bills) → typeLines k (ns ++ (n ∷ [])) ≡ typeLines k ns ++ typeLine (k + length ns) n
+types-snoc k [] n =
+    types-cons k n [] ∙ ap (λ (x : List (List ℕ)). typeLine k n ++ x) (types-nil (suc k)) ∙ append-nil (typeLine k n)
+    ∙ ap (λ (j : ℕ). typeLine j n) (omega arith) ∙ sym (ap (λ (x : List (List ℕ)). x ++ typeLine (k + 0) n) (types-nil k))
+types-snoc k (m ∷ ns) n =
+    types-cons k m (ns ++ (n ∷ []))
+    ∙ ap (λ (x : List (List ℕ)). typeLine k m ++ x) (types-snoc (suc k) ns n)
+    ∙ sym (append-assoc (typeLine k m) (typeLines (suc k) ns) (typeLine (suc k + length ns) n))
+    ∙ ap (λ (x : List (List ℕ)). x ++ typeLine (suc k + length ns) n) (sym (types-cons k m ns))
+    ∙ ap (λ (j : ℕ). typeLines k (m ∷ ns) ++ typeLine j n) (omega arith)
+
+pub types-none : (ns : List Bills) → lines (typeLines 0 (take 0 ns)) ≡ []
+types-none ns = ap lines (types-nil 0) ∙ lines-none
+
+pub types-one : (ns : List Bills) (y : ℕ) (d : Bills) → y < length ns
+    → lines (typeLines 0 (take (y + 1) ns)) ≡ lines (typeLines 0 (take y ns)) ++ lines (typeLine y (getD ns y d))
+types-one ns y d h =
+    let l : length (take y ns) ≡ y = length-take y ns ∙ omega arith in
+    ap (λ (j : ℕ). lines (typeLines 0 (take j ns))) (add-one y)
+    ∙ ap (λ (x : List Bills). lines (typeLines 0 x)) (take-suc ns y d h)
+    ∙ ap lines (types-snoc 0 (take y ns) (getD ns y d))
+    ∙ lines-append (typeLines 0 (take y ns)) (typeLine (0 + length (take y ns)) (getD ns y d))
+    ∙ ap (λ (j : ℕ). lines (typeLines 0 (take y ns)) ++ lines (typeLine j (getD ns y d))) (omega arith)
+
+-- a type's line, piece by piece
+pub type-added : {before m o after : List ℕ} {at e f g : ℕ} (y : ℕ) (n : Bills) → (n .0 ≡ 0 → ⊥) → Adds before at (field "type " y) m e
+    → Adds m e (field " bills " (n .0)) o f → Adds o f (0x0A ∷ []) after g → Adds before at (lines (typeLine y n)) after g
+type-added {before} {m} {o} {after} {at} {e} {f} {g} y n h p q r =
+    subst (λ (l : List ℕ). Adds before at l after g)
+    (sym (append-assoc (field "type " y) (field " bills " (n .0)) (0x0A ∷ [])) ∙ sym (type-seen y n h))
+    (adds-then p (adds-then q r))
+
+pub none-added : (before : List ℕ) (at y : ℕ) (n : Bills) → n .0 ≡ 0 → Adds before at (lines (typeLine y n)) before at
+none-added before at y n e = subst (λ (l : List ℕ). Adds before at l before at) (sym (type-none y n e)) (adds-none before at)
+
+-- the lines of the types, one type more
+pub types-begin : (before : List ℕ) (at : ℕ) (ns : List Bills) → Adds before at (lines (typeLines 0 (take 0 ns))) before at
+types-begin before at ns = subst (λ (l : List ℕ). Adds before at l before at) (sym (types-none ns)) (adds-none before at)
+
+pub types-next : {before m after : List ℕ} {at e f : ℕ} (ns : List Bills) (y : ℕ) (d : Bills) → y < length ns
+    → Adds before at (lines (typeLines 0 (take y ns))) m e → Adds m e (lines (typeLine y (getD ns y d))) after f
+    → Adds before at (lines (typeLines 0 (take (y + 1) ns))) after f
+types-next {before} {m} {after} {at} {e} {f} ns y d h p q =
+    subst (λ (l : List ℕ). Adds before at l after f) (sym (types-one ns y d h)) (adds-then p q)
+
+pub types-all : {before after : List ℕ} {at e : ℕ} (ns : List Bills) (y : ℕ) → length ns ≤ y → Adds before at (lines (typeLines 0 (take y ns))) after e
+    → Adds before at (lines (typeLines 0 ns)) after e
+types-all {before} {after} {at} {e} ns y h p = subst (λ (l : List Bills). Adds before at (lines (typeLines 0 l)) after e) (take-all y ns h) p
+
+-- the lines of a good recording's report, and that of a bad one
+pub good-added : {before m n o p after : List ℕ} {e f g h k : ℕ} (u l d : List ℕ) (ts : List (List ℕ)) (r : List ℕ) → Adds before 0 (line u) m e
+    → Adds m e (line l) n f → Adds n f (line d) o g → Adds o g (lines ts) p h → Adds p h (line r) after k
+    → Adds before 0 (lines (u ∷ l ∷ d ∷ (ts ++ (r ∷ [])))) after k
+good-added {before} {m} {n} {o} {p} {after} {e} {f} {g} {h} {k} u l d ts r a b c t w =
+    subst (λ (x : List ℕ). Adds before 0 x after k)
+    (ap (λ (x : List ℕ). line u ++ (line l ++ (line d ++ (lines ts ++ x)))) (sym (lines-one r))
+    ∙ ap (λ (x : List ℕ). line u ++ (line l ++ (line d ++ x))) (sym (lines-append ts (r ∷ [])))
+    ∙ ap (λ (x : List ℕ). line u ++ (line l ++ x)) (sym (lines-more d (ts ++ (r ∷ []))))
+    ∙ ap (λ (x : List ℕ). line u ++ x) (sym (lines-more l (d ∷ (ts ++ (r ∷ [])))))
+    ∙ sym (lines-more u (l ∷ d ∷ (ts ++ (r ∷ [])))))
+    (adds-then a (adds-then b (adds-then c (adds-then t w))))
+
+pub bad-added : {before m after : List ℕ} {e f : ℕ} (a b : List ℕ) → Adds before 0 a m e → Adds m e (line b) after f → Adds before 0 (line (a ++ b)) after f
+bad-added {before} {m} {after} {e} {f} a b p q =
+    subst (λ (x : List ℕ). Adds before 0 x after f) (sym (append-assoc a b (0x0A ∷ []))) (adds-then p q)
+
+pub one-added : {before after : List ℕ} {f : ℕ} (l : List ℕ) → Adds before 0 (line l) after f → Adds before 0 (lines (l ∷ [])) after f
+one-added {before} {after} {f} l p = subst (λ (x : List ℕ). Adds before 0 x after f) (sym (lines-one l)) p
