@@ -22,7 +22,7 @@ use Rattle.recording.specs.declared.Record.the-variants.{Request, DispenserByte
 use Rattle.recording.specs.declared.taking.Found.{Found}
 use Rattle.recording.specs.declared.taking.Found.the-variants.{Whole, Bad}
 use Rattle.recording.proofs.Folds.{reading-end, reading-short, reading-long}
-use Rattle.recording.proofs.Starts.{whole-read, bad-read}
+use Rattle.recording.proofs.Starts.{whole-read, whole-says, bad-says}
 use Rattle.grading.specs.Replay.{Desk, freshDesk, declines, declinesToo, given, run, told, badFindings, replayed, replayOf, joined}
 use Rattle.grading.specs.declared.desk.Findings.{Findings}
 use Rattle.grading.specs.declared.desk.Run.{Run}
@@ -39,7 +39,7 @@ module _ (s : List ℕ) (i : ℕ) (h : i < length s) (f : Found) (e : f ≡ foun
   gives d d′ x n q g p =
       ap (λ (y : Desk). replayed y (readingFrom freshReader (i + n) (drop (i + n) s))) g
       ∙ sym (replayed-also d x (readingFrom freshReader (i + n) (drop (i + n) s)))
-      ∙ sym (ap (replayed d) (whole-read s i h f e q .says))
+      ∙ sym (ap (replayed d) (whole-says s i h f e q))
       ∙ p
 
   -- the next record is due further on, and no further than the end
@@ -47,7 +47,7 @@ module _ (s : List ℕ) (i : ℕ) (h : i < length s) (f : Found) (e : f ≡ foun
   further x n q = let r = whole-read s i h f e q in (omega (arith, r .some), r .fits)
 
   pub breaks : (d : Desk) {o : Findings} {why : Fault} → f ≡ Bad why → replayed d (readingFrom freshReader i (drop i s)) ≡ o → badFindings why i ≡ o
-  breaks d q p = sym (ap (replayed d) (bad-read s i h f e q)) ∙ p
+  breaks d q p = sym (ap (replayed d) (bad-says s i h f e q)) ∙ p
 
 -- ---- the end
 

@@ -5,13 +5,15 @@ use mathlib.Core.List.{List, [], _∷_, _++_, append-assoc, append-nil}
 use mathlib.Core.Logic.{_↔_}
 use native.Mathlib.Nat.{le-refl}
 use native.Mathlib.Omega.{arith}
-use lib.ListN.{length, length-append}
+use lib.ListN.{length, take, drop, length-append, length-drop, take-append-drop}
+use lib.Seq.{length-take-le, drop-drop}
 use Rattle.numbers.specs.Rules.{under}
 use Rattle.numbers.specs.Promises.{Bytes}
 use Rattle.numbers.proofs.Rules.{by-cases}
 use Rattle.recording.specs.Record.{faultNumber, mostBytes, kindOf, numbersOf, howMany, laidNumbers, recordBytes, InRange, laid, AllInRange}
 use Rattle.recording.specs.Reading.{Reading, records, bad, freshReader, ended, readByte, also, went, readingFrom, readRecording}
-use Rattle.recording.specs.Promises.{Faulty, kind, value, number, cut, Breaks, ExactlyWhen}
+use Rattle.recording.specs.Taking.{foundAt}
+use Rattle.recording.specs.Promises.{Faulty, kind, value, number, cut, Breaks, TakenAtOnce, ExactlyWhen}
 use Rattle.recording.specs.declared.Fault.{Fault}
 use Rattle.recording.specs.declared.Fault.the-variants.{BadNumber, Cut, Unknown, Long}
 use Rattle.recording.specs.declared.Record.{Record}
@@ -19,7 +21,8 @@ use Rattle.recording.specs.declared.Reader.{Reader}
 use Rattle.recording.specs.declared.Took.{Took}
 use Rattle.recording.specs.declared.Heard.{Heard}
 use Rattle.recording.proofs.Folds.{reading-nil, reading-cons, reading-short, reading-long}
-use Rattle.recording.proofs.Trips.{laid-none, KindSays, listed, unlisted, kind-says, Rest, whole, fault, rests}
+use Rattle.recording.proofs.Trips.{laid-none, bytes-drop, KindSays, listed, unlisted, kind-says, Rest, whole, fault, rests}
+use Rattle.recording.proofs.Starts.{whole-read, bad-says}
 use Rattle.recording.proofs.Back.{length-record, bytes-record, alsos, alsos-bad, alsos-none, records-back, faulty-back}
 
 -- ---- what is said of bytes that start at an offset is so
@@ -97,6 +100,52 @@ one-said (k ∷ u) h go at =
 said : (f : ℕ) (s : List ℕ) → length s ≤ f → Bytes s → (at : ℕ) → Said at s (readingFrom freshReader at s)
 said zero s l h at = one-said s h (λ t m. absurd (omega arith)) at
 said (suc f) s l h at = one-said s h (λ t m. said f t (omega arith)) at
+
+-- ---- a record taken at once
+
+bytes-before : (l t : List ℕ) → Bytes (l ++ t) → Bytes l
+bytes-before [] t h i = omega arith
+bytes-before (b ∷ l) t h zero = h zero
+bytes-before (b ∷ l) t h (suc i) = bytes-before l t (λ j. h (suc j)) i
+
+bytes-take : (i : ℕ) (u : List ℕ) → Bytes u → Bytes (take i u)
+bytes-take i u h = bytes-before (take i u) (drop i u) (subst Bytes (sym (take-append-drop i u)) h)
+
+-- bytes that are one record and nothing else
+alone-said : (at : ℕ) (u : List ℕ) (x : Record) → Bytes u → readingFrom freshReader at u ≡ records (x ∷ []) → InRange x × (u ≡ recordBytes x)
+alone-said at u x h e =
+    let r = subst (Said at u) e (said (length u) u (le-refl (length u)) h at) in
+    (r .0 .0, r .1 ∙ more-laid x [] ∙ ap (λ (l : List ℕ). recordBytes x ++ l) none-laid ∙ append-nil (recordBytes x))
+
+empty : (l : List ℕ) → length l ≡ 0 → l ≡ []
+empty [] e = refl
+empty (b ∷ l) e = absurd (omega arith)
+
+-- a fault at the first byte
+first-said : (at : ℕ) (u : List ℕ) (why : Fault) → Bytes u → readingFrom freshReader at u ≡ bad why at → Faulty why u
+first-said at u why h e =
+    let r = subst (Said at u) e (said (length u) u (le-refl (length u)) h at) in
+    by (r .1 .1) (omega (arith, r .1 .0))
+  where
+    by : {i : ℕ} (b : Breaks why i u) → i ≡ 0 → Faulty why u
+    by b z = subst (Faulty why) (sym (b .are ∙ ap (λ (l : List ℕ). l ++ b .rest) (empty (laid (b .good)) (omega (arith, b .place, z))))) (b .fault)
+
+pub taken-at-once : TakenAtOnce
+unfolding ended
+taken-at-once =
+    record {
+      whole = λ s at h l x n e.
+          let r = whole-read s at l (foundAt s at) refl e in
+          let u = take n (drop at s) in
+          let y = alone-said at u x (bytes-take n (drop at s) (bytes-drop at s h))
+          (ap (readingFrom freshReader at) (sym (append-nil u)) ∙ r .alone [] ∙ ap (also x) (reading-nil freshReader (at + n))) in
+          let k : length u ≡ n = length-take-le n (drop at s) (simp length-drop (omega (arith, r .fits))) in (
+            y .0,
+            sym k ∙ ap length (y .1),
+            sym (take-append-drop n (drop at s)) ∙ ap (λ (t : List ℕ). u ++ t) (drop-drop n at s) ∙ ap (λ (t : List ℕ). t ++ drop (at + n) s) (y .1),
+          );
+      faulty = λ s at h l why e. first-said at (drop at s) why (bytes-drop at s h) (bad-says s at l (foundAt s at) refl e);
+    }
 
 -- ---- both ways
 

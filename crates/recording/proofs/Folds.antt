@@ -18,7 +18,7 @@ use Rattle.recording.specs.declared.Heard.{Heard}
 use Rattle.recording.specs.declared.Heard.the-variants.{More, Whole, Bad}
 use Rattle.recording.specs.declared.Took.{Took}
 use Rattle.recording.specs.declared.Verdict.{Verdict}
-use Rattle.recording.specs.declared.Verdict.the-variants.{Good, Bad as Faulty}
+use Rattle.recording.specs.declared.Verdict.the-variants.{Good, Bad as NotGood}
 use Rattle.recording.proofs.Heard.{the-type}
 
 pub reading-nil : (r : Reader) (at : ℕ) → readingFrom r at [] ≡ closing (ended r)
@@ -61,7 +61,7 @@ verdict-went (Bad why at) k rest = absurd (miss (0 ∷ 1 ∷ []) 2 tt k)
 
 pub verdict-closing : (v : Verdict) → verdictOf (closing v) ≡ v
 verdict-closing Good = refl
-verdict-closing (Faulty why at) = refl
+verdict-closing (NotGood why at) = refl
 
 -- ---- the loop over a recording: t is what the byte at i left
 

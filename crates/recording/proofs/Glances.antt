@@ -1,32 +1,30 @@
--- Records of two to four bytes: what the steps over their bytes come to. Assumes nothing.
+-- What is found where a record is due: byte by byte, and for records of two to four bytes at a glance. Assumes nothing.
 use Prim.Native.Nat.{ℕ, zero, suc, _+_, _*_, _-_, _%_, _≤_, _<_}
 use mathlib.Core.Path.{_≡_, refl, sym, ap, _∙_}
-use mathlib.Core.Bool.{Bool, true, false, _&&_}
 use mathlib.Core.List.{List, [], _∷_}
-use native.Mathlib.Nat.{mod-eq-of-lt}
 use native.Mathlib.Numerals.{add-one}
 use native.Mathlib.Omega.{arith}
-use lib.Dec.{eqb}
 use lib.ListN.{length, drop, getD, drop-of-length-le}
 use lib.Seq.{drop-cons}
 use types.Run.{hit}
-use borrow.Author.Tests.{lt-leb, le-leb, le-ltb, ne-eqb}
-use Rattle.numbers.specs.Seven.{groupAfter, nextGroup}
+use borrow.Author.Tests.{le-ltb}
+use Rattle.numbers.specs.Seven.{nextGroup}
 use Rattle.numbers.specs.declared.Group.{Group}
 use Rattle.numbers.specs.declared.Group.the-variants.{More as OneMore, Last}
-use Rattle.recording.specs.Reading.{freshReader, awaiting, grown, nextNumber, more, kindByte, numbered, requestRead, groupRead, grouped, readByte}
-use Rattle.recording.specs.Taking.{settled, foundFrom, foundAt, placeOf, asked}
+use Rattle.numbers.proofs.Groups.{group-more, group-last, next-begun}
+use Rattle.recording.specs.Reading.{freshReader, awaiting, placeOf, grown, nextNumber, more, kindByte, numbered, requestRead, groupRead, grouped, readByte}
+use Rattle.recording.specs.Taking.{settled, foundFrom, foundAt, lastDue}
 use Rattle.recording.specs.declared.Fault.{Fault}
 use Rattle.recording.specs.declared.Fault.the-variants.{Cut}
 use Rattle.recording.specs.declared.Record.{Record}
-use Rattle.recording.specs.declared.Place.the-variants.{Code, Upper, ToValidator}
+use Rattle.recording.specs.declared.Place.the-variants.{Code, Upper}
 use Rattle.recording.specs.declared.Reader.{Reader}
 use Rattle.recording.specs.declared.Took.{Took}
 use Rattle.recording.specs.declared.Heard.{Heard}
-use Rattle.recording.specs.declared.Heard.the-variants.{More, Whole as WholeRecord, Bad as Faulty}
+use Rattle.recording.specs.declared.Heard.the-variants.{More, Whole as HeardWhole, Bad as HeardBad}
 use Rattle.recording.specs.declared.taking.Found.{Found}
 use Rattle.recording.specs.declared.taking.Found.the-variants.{Whole, Bad}
-use Rattle.recording.proofs.Places.{within, Inside, begun-byte}
+use Rattle.recording.proofs.Places.{within, Inside, begun-byte, place-inside}
 
 -- ---- the fold
 
@@ -60,63 +58,36 @@ module _ (r : Reader) (s : List ℕ) (i n : ℕ) (h : i < length s) (t : Took) (
   pub goes-on : t .heard ≡ More → foundFrom (t .reader) (i + 1) m (drop (i + 1) s) ≡ o
   goes-on f = settles More f
 
-  pub is-whole : {x : Record} → t .heard ≡ WholeRecord x → Whole x m ≡ o
-  is-whole {x} f = settles (WholeRecord x) f
+  pub is-whole : {x : Record} → t .heard ≡ HeardWhole x → Whole x m ≡ o
+  is-whole {x} f = settles (HeardWhole x) f
 
-  pub is-bad : {why : Fault} {at : ℕ} → t .heard ≡ Faulty why at → Bad why ≡ o
-  is-bad {why} {at} f = settles (Faulty why at) f
+  pub is-bad : {why : Fault} {at : ℕ} → t .heard ≡ HeardBad why at → Bad why ≡ o
+  is-bad {why} {at} f = settles (HeardBad why at) f
 
 -- ---- the bytes
 
 -- a kind
 begins : (at k : ℕ) → k ≤ 4 → readByte freshReader at k ≡ more (awaiting at (placeOf k))
 unfolding readByte kindByte
-begins at zero h = refl
-begins at (suc zero) h = refl
-begins at (suc (suc zero)) h = refl
-begins at (suc (suc (suc zero))) h = refl
-begins at (suc (suc (suc (suc zero)))) h = refl
-begins at (suc (suc (suc (suc (suc k))))) h = absurd (omega arith)
-
-place-inside : (k : ℕ) → Inside (placeOf k)
-place-inside zero = hit within 1 tt
-place-inside (suc zero) = hit within 4 tt
-place-inside (suc (suc zero)) = hit within 5 tt
-place-inside (suc (suc (suc zero))) = hit within 6 tt
-place-inside (suc (suc (suc (suc k)))) = hit within 7 tt
-
-pub other-place : (k : ℕ) → 0 < k → (k ≡ 1 → ⊥) → (k ≡ 2 → ⊥) → (k ≡ 3 → ⊥) → placeOf k ≡ ToValidator
-other-place zero h a b c = absurd (omega arith)
-other-place (suc zero) h a b c = absurd (a refl)
-other-place (suc (suc zero)) h a b c = absurd (b refl)
-other-place (suc (suc (suc zero))) h a b c = absurd (c refl)
-other-place (suc (suc (suc (suc k)))) h a b c = refl
-
-no-and : (t : Bool) → (t && false) ≡ false
-no-and true = refl
-no-and false = refl
+begins at k h = rw (le-ltb 4 k h) refl
 
 -- a number's only group
 only : (b : ℕ) → b < 128 → nextGroup 0 1 b ≡ Last b
-unfolding nextGroup groupAfter
 only b h =
-    let e : b % 128 ≡ b = mod-eq-of-lt h in
-    let n : 0 + b * 1 ≡ b = omega arith in
-    simp (lt-leb 128 b h, e, n, lt-leb 4_294_967_296 b (omega arith), no-and (eqb b 0))
+    let e : 0 + b % 128 * 1 ≡ b = omega arith in
+    next-begun 0 1 b (omega arith) (omega arith) ∙ group-last 0 1 b h (omega arith) (λ z. omega arith) ∙ ap Last e
 
 -- the first of more
 first : (b : ℕ) → 128 ≤ b → nextGroup 0 1 b ≡ OneMore (b % 128) 128
-unfolding nextGroup groupAfter
 first b h =
-    let n : 0 + b % 128 * 1 ≡ b % 128 = omega arith in
-    simp (le-leb 128 b h, n)
+    let e : 0 + b % 128 * 1 ≡ b % 128 = omega arith in
+    next-begun 0 1 b (omega arith) (omega arith) ∙ group-more 0 1 b h (omega arith) ∙ ap (λ (a : ℕ). OneMore a 128) e
 
 -- the second, and last
 second : (a h : ℕ) → a < 128 → 0 < h → h < 128 → nextGroup a 128 h ≡ Last (a + h * 128)
-unfolding nextGroup groupAfter
 second a h l p q =
-    let e : h % 128 ≡ h = mod-eq-of-lt q in
-    simp (lt-leb 128 a l, lt-leb 128 h q, e, lt-leb 4_294_967_296 (a + h * 128) (omega arith), ne-eqb h 0 (λ z. omega arith))
+    let e : a + h % 128 * 128 ≡ a + h * 128 = omega arith in
+    next-begun a 128 h l (omega arith) ∙ group-last a 128 h q (omega arith) (λ z. absurd (omega arith)) ∙ ap Last e
 
 -- a byte of a number, by what its group is
 groups : (r : Reader) (at b : ℕ) (g : Group) → Inside (r .place) → nextGroup (r .acc) (r .weight) b ≡ g → readByte r at b ≡ groupRead g r
@@ -149,13 +120,13 @@ module _ (at k b : ℕ) (h : k ≤ 4) where
 -- a request
 pub of-four : (at c u l : ℕ) → c < 128 → u < 128 → l < 128 → (s : List ℕ)
     → foundFrom freshReader at 0 (0 ∷ c ∷ u ∷ l ∷ s)
-    ≡ settled (requestRead (asked at c u) l .heard) 4 (foundFrom (requestRead (asked at c u) l .reader) (suc (suc (suc (suc at)))) 4 s)
+    ≡ settled (requestRead (lastDue at c u) l .heard) 4 (foundFrom (requestRead (lastDue at c u) l .reader) (suc (suc (suc (suc at)))) 4 s)
 of-four at c u l p q h s =
     found-step freshReader at 0 0 (c ∷ u ∷ l ∷ s) _ (begins at 0 (omega arith))
     ∙ found-step (awaiting at Code) (suc at) 1 c (u ∷ l ∷ s) _ (groups (awaiting at Code) (suc at) c (Last c) (hit within 1 tt) (only c p))
     ∙ found-step (nextNumber (awaiting at Code) c 0 Upper) (suc (suc at)) 2 u (l ∷ s) _
     (groups (nextNumber (awaiting at Code) c 0 Upper) (suc (suc at)) u (Last u) (hit within 2 tt) (only u q))
-    ∙ found-step (asked at c u) (suc (suc (suc at))) 3 l s _ (groups (asked at c u) (suc (suc (suc at))) l (Last l) (hit within 3 tt) (only l h))
+    ∙ found-step (lastDue at c u) (suc (suc (suc at))) 3 l s _ (groups (lastDue at c u) (suc (suc (suc at))) l (Last l) (hit within 3 tt) (only l h))
 
 -- ---- where they stand
 
@@ -189,7 +160,7 @@ module _ (s : List ℕ) (at : ℕ) (h : at + 4 ≤ length s) where
       e _ _ ∙ sym (of-three at (getD s at 0) (getD s (at + 1) 0) k b (getD s (at + 2) 0) p q (drop (at + 3) s)) ∙ ap (foundFrom freshReader at 0) (sym three)
 
   pub found-four : getD s at 0 ≡ 0 → getD s (at + 1) 0 < 128 → getD s (at + 2) 0 < 128 → getD s (at + 3) 0 < 128 → {x : Found}
-      → ((o : ℕ) (rest : Found) → x ≡ settled (requestRead (asked o (getD s (at + 1) 0) (getD s (at + 2) 0)) (getD s (at + 3) 0) .heard) 4 rest)
+      → ((o : ℕ) (rest : Found) → x ≡ settled (requestRead (lastDue o (getD s (at + 1) 0) (getD s (at + 2) 0)) (getD s (at + 3) 0) .heard) 4 rest)
       → x ≡ foundAt s at
   unfolding foundAt
   found-four k c u l e =

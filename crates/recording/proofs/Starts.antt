@@ -3,22 +3,20 @@
 use Prim.Native.Nat.{ℕ, suc, _+_, _%_, _≤_, _<_}
 use mathlib.Core.Path.{_≡_, refl, sym, ap, _∙_, subst}
 use mathlib.Core.Bool.{Bool, true, false, cond}
-use mathlib.Core.List.{List, [], _∷_}
+use mathlib.Core.List.{List, [], _∷_, _++_}
 use native.Mathlib.Omega.{arith}
-use lib.Dec.{eqb}
-use lib.ListN.{length, drop, length-drop}
+use lib.Dec.{ltb}
+use lib.ListN.{length, take, drop, length-drop, take-append-drop}
 use lib.Seq.{drop-drop}
-use denote.Enum.Declared.{tagOf}
-use types.Run.{OneOf, hit, miss}
+use types.Run.{hit, miss}
 use Rattle.numbers.specs.Rules.{Condition, under, isnt, judged, _gives_}
 use Rattle.numbers.specs.Seven.{nextGroup}
 use Rattle.numbers.specs.declared.Group.{Group}
 use Rattle.numbers.specs.declared.Group.the-variants.{More as OneMore, Last, Wrong}
 use Rattle.dispenser_frame.specs.Table.{known}
 use Rattle.recording.specs.Record.{numberEnd, inList}
-use Rattle.recording.specs.Reading.{Reading, bad, freshReader, awaiting, grown, nextNumber, more, whole, refusedAt, refused, kindByte, numbered, requestRead, byteRead, commandRead, groupRead, grouped, readByte, also, went, closing, readingFrom}
+use Rattle.recording.specs.Reading.{Reading, bad, freshReader, awaiting, placeOf, grown, nextNumber, more, whole, refusedAt, refused, kindByte, numbered, requestRead, byteRead, commandRead, groupRead, grouped, readByte, also, went, closing, readingFrom}
 use Rattle.recording.specs.Taking.{settled, foundFrom, foundAt}
-use Rattle.recording.specs.Promises.{Stands, TakenAtOnce}
 use Rattle.recording.specs.declared.Fault.{Fault}
 use Rattle.recording.specs.declared.Fault.the-variants.{BadNumber, Cut, Unknown}
 use Rattle.recording.specs.declared.Record.{Record}
@@ -29,7 +27,7 @@ use Rattle.recording.specs.declared.Reader.{Reader}
 use Rattle.recording.specs.declared.Took.{Took}
 use Rattle.recording.specs.declared.taking.Found.{Found}
 use Rattle.recording.specs.declared.taking.Found.the-variants.{Whole, Bad}
-use Rattle.recording.proofs.Places.{within, Inside, begun-byte, begun-ended}
+use Rattle.recording.proofs.Places.{within, Inside, begun-byte, begun-ended, place-inside}
 use Rattle.recording.proofs.Folds.{reading-nil, reading-cons}
 use Rattle.recording.proofs.Glances.{found-nil, found-step}
 
@@ -74,79 +72,86 @@ held-byte {o} r at b i e = subst (Held o) (sym (begun-byte r at b i)) (held-grou
 -- its kind
 held-kind : (at b : ℕ) → Held at (readByte freshReader at b)
 unfolding readByte kindByte
-held-kind at b =
-    held-either (eqb b 0) (begun (awaiting at Code) (hit within 1 tt) refl)
-    (held-either (eqb b 1) (begun (awaiting at FromDispenser) (hit within 4 tt) refl)
-    (held-either (eqb b 2) (begun (awaiting at Milliseconds) (hit within 5 tt) refl)
-    (held-either (eqb b 3) (begun (awaiting at FromValidator) (hit within 6 tt) refl)
-    (held-either (eqb b 4) (begun (awaiting at ToValidator) (hit within 7 tt) refl) (faulty freshReader Unknown)))))
+held-kind at b = held-either (ltb 4 b) (faulty freshReader Unknown) (begun (awaiting at (placeOf b)) (place-inside b) refl)
 
--- ---- what the bytes say from p on, o, and what is found there once n bytes of the record at a were read
+-- ---- g says what bytes from p on say, and n bytes of the record at a were read: what is found in s
 
-data Leads (a p n : ℕ) (s : List ℕ) (o : Reading) : Found → Type 0 where
-  one : (x : Record) (k : ℕ) → 0 < k → k ≤ length s → o ≡ also x (readingFrom freshReader (p + k) (drop k s)) → Leads a p n s o (Whole x (n + k))
-  none : (why : Fault) → o ≡ bad why a → Leads a p n s o (Bad why)
+data Leads (a p n : ℕ) (s : List ℕ) (g : List ℕ → Reading) : Found → Type 0 where
+  -- the first k bytes of s complete x, whatever follows them
+  one : (x : Record) (k : ℕ) → 0 < k → k ≤ length s → ((t : List ℕ) → g (take k s ++ t) ≡ also x (readingFrom freshReader (p + k) t))
+      → Leads a p n s g (Whole x (n + k))
+  none : (why : Fault) → g s ≡ bad why a → Leads a p n s g (Bad why)
 
-leads-later : {a p n b : ℕ} {s : List ℕ} {o : Reading} {f : Found} → Leads a (suc p) (suc n) s o f → Leads a p n (b ∷ s) o f
-leads-later {a} {p} {n} {b} {s} {o} (one x k h l e) =
+leads-later : {a p n b : ℕ} {s : List ℕ} {g : List ℕ → Reading} {f : Found} (r : Reader) → ((u : List ℕ) → g (b ∷ u) ≡ readingFrom r (suc p) u)
+    → Leads a (suc p) (suc n) s (readingFrom r (suc p)) f → Leads a p n (b ∷ s) g f
+leads-later {a} {p} {n} {b} {s} {g} r c (one x k h l e) =
     let f : n + suc k ≡ suc n + k = omega arith in
-    let g : suc p + k ≡ p + suc k = omega arith in
-    subst (λ (m : ℕ). Leads a p n (b ∷ s) o (Whole x m)) f
-    (one x (suc k) (omega arith) (omega (arith, l)) (e ∙ ap (λ (q : ℕ). also x (readingFrom freshReader q (drop k s))) g))
-leads-later (none why e) = none why e
+    let q : suc p + k ≡ p + suc k = omega arith in
+    subst (λ (m : ℕ). Leads a p n (b ∷ s) g (Whole x m)) f
+    (one x (suc k) (omega arith) (omega (arith, l)) (λ t. c (take k s ++ t) ∙ e t ∙ ap (λ (i : ℕ). also x (readingFrom freshReader i t)) q))
+leads-later {s} r c (none why e) = none why (c s ∙ e)
 
-leads-byte : {a p n b : ℕ} {s : List ℕ} (t : Took) → Held a t
-    → ((r : Reader) → Inside (r .place) → r .start ≡ a → Leads a (suc p) (suc n) s (readingFrom r (suc p) s) (foundFrom r (suc p) (suc n) s))
-    → Leads a p n (b ∷ s) (went (t .heard) (readingFrom (t .reader) (suc p) s)) (settled (t .heard) (suc n) (foundFrom (t .reader) (suc p) (suc n) s))
-leads-byte t (begun r i e) later = leads-later (later r i e)
-leads-byte {a} {p} {n} {b} {s} t (complete x) later =
+leads-byte : {a p n b : ℕ} {s : List ℕ} {g : List ℕ → Reading} (t : Took) → Held a t
+    → ((u : List ℕ) → g (b ∷ u) ≡ went (t .heard) (readingFrom (t .reader) (suc p) u))
+    → ((r : Reader) → Inside (r .place) → r .start ≡ a → Leads a (suc p) (suc n) s (readingFrom r (suc p)) (foundFrom r (suc p) (suc n) s))
+    → Leads a p n (b ∷ s) g (settled (t .heard) (suc n) (foundFrom (t .reader) (suc p) (suc n) s))
+leads-byte t (begun r i e) c later = leads-later r c (later r i e)
+leads-byte {a} {p} {n} {b} {s} {g} t (complete x) c later =
     let f : n + 1 ≡ suc n = omega arith in
-    let g : suc p ≡ p + 1 = omega arith in
-    subst (λ (m : ℕ). Leads a p n (b ∷ s) (also x (readingFrom freshReader (suc p) s)) (Whole x m)) f
-    (one x 1 (omega arith) (omega arith) (ap (λ (q : ℕ). also x (readingFrom freshReader q s)) g))
-leads-byte t (faulty r why) later = none why refl
+    let q : suc p ≡ p + 1 = omega arith in
+    subst (λ (m : ℕ). Leads a p n (b ∷ s) g (Whole x m)) f
+    (one x 1 (omega arith) (omega arith) (λ t. c t ∙ ap (λ (i : ℕ). also x (readingFrom freshReader i t)) q))
+leads-byte {s} t (faulty r why) c later = none why (c s)
 
-inside-leads : (s : List ℕ) {a : ℕ} (r : Reader) → Inside (r .place) → r .start ≡ a → (p n : ℕ)
-    → Leads a p n s (readingFrom r p s) (foundFrom r p n s)
+inside-leads : (s : List ℕ) {a : ℕ} (r : Reader) → Inside (r .place) → r .start ≡ a → (p n : ℕ) → Leads a p n s (readingFrom r p) (foundFrom r p n s)
 inside-leads [] {a} r i e p n =
-    subst (Leads a p n [] (readingFrom r p [])) (sym (found-nil r p n)) (none Cut (reading-nil r p ∙ ap closing (begun-ended r i) ∙ ap (bad Cut) e))
+    subst (Leads a p n [] (readingFrom r p)) (sym (found-nil r p n)) (none Cut (reading-nil r p ∙ ap closing (begun-ended r i) ∙ ap (bad Cut) e))
 inside-leads (b ∷ s) {a} r i e p n =
-    rw (reading-cons r p b s, found-step r p n b s (readByte r p b) refl)
-    (leads-byte (readByte r p b) (held-byte r p b i e) (λ r′ i′ e′. inside-leads s r′ i′ e′ (suc p) (suc n)))
+    subst (Leads a p n (b ∷ s) (readingFrom r p)) (sym (found-step r p n b s (readByte r p b) refl))
+    (leads-byte (readByte r p b) (held-byte r p b i e) (reading-cons r p b) (λ r′ i′ e′. inside-leads s r′ i′ e′ (suc p) (suc n)))
 
-due-leads : (s : List ℕ) (a : ℕ) → 0 < length s → Leads a a 0 s (readingFrom freshReader a s) (foundFrom freshReader a 0 s)
+due-leads : (s : List ℕ) (a : ℕ) → 0 < length s → Leads a a 0 s (readingFrom freshReader a) (foundFrom freshReader a 0 s)
 due-leads [] a h = absurd (omega (arith, h))
 due-leads (b ∷ s) a h =
-    rw (reading-cons freshReader a b s, found-step freshReader a 0 b s (readByte freshReader a b) refl)
-    (leads-byte (readByte freshReader a b) (held-kind a b) (λ r i e. inside-leads s r i e (suc a) 1))
+    subst (Leads a a 0 (b ∷ s) (readingFrom freshReader a)) (sym (found-step freshReader a 0 b s (readByte freshReader a b) refl))
+    (leads-byte (readByte freshReader a b) (held-kind a b) (reading-cons freshReader a b) (λ r i e. inside-leads s r i e (suc a) 1))
 
--- ---- in a recording s, at i: f is what is found there
+-- ---- in a recording s, at an offset i where a record is due: f is what is found there
+
+-- a record of n bytes, whatever follows them
+pub record Stands (s : List ℕ) (i : ℕ) (x : Record) (n : ℕ) : Type 0 where
+  pub some : 0 < n
+  pub fits : i + n ≤ length s
+  pub alone : (t : List ℕ) → readingFrom freshReader i (take n (drop i s) ++ t) ≡ also x (readingFrom freshReader (i + n) t)
 
 one-read : (s : List ℕ) (i : ℕ) → i < length s → {x : Record} {n : ℕ} {f : Found} → f ≡ Whole x n
-    → Leads i i 0 (drop i s) (readingFrom freshReader i (drop i s)) f → Stands s i x n
+    → Leads i i 0 (drop i s) (readingFrom freshReader i) f → Stands s i x n
 one-read s i h {x} {n} q (one y k p l e) =
     let same : y ≡ x = cc in
     let size : 0 + k ≡ n = cc in
     let m : k ≡ n = omega (arith, size) in
     subst (λ (j : ℕ). Stands s i x j) m
-    (subst (λ (z : Record). Stands s i z k) same
-    (record { some = p; fits = omega (arith, simp length-drop at l); says = e ∙ ap (λ (t : List ℕ). also y (readingFrom freshReader (i + k) t)) (drop-drop k i s) }))
+    (subst (λ (z : Record). Stands s i z k) same (record { some = p; fits = omega (arith, simp length-drop at l); alone = e }))
 one-read s i h q (none why e) = let z : _≡_ {A = ℕ} 0 1 = cc in absurd (omega arith)
 
-none-read : {i : ℕ} {s : List ℕ} {o : Reading} {why : Fault} {f : Found} → f ≡ Bad why → Leads i i 0 s o f → o ≡ bad why i
+none-read : {i : ℕ} {s : List ℕ} {g : List ℕ → Reading} {why : Fault} {f : Found} → f ≡ Bad why → Leads i i 0 s g f → g s ≡ bad why i
 none-read q (one y k p l e) = let z : _≡_ {A = ℕ} 0 1 = cc in absurd (omega arith)
 none-read {i} q (none w e) = e ∙ ap (λ (y : Fault). bad y i) cc
 
 module _ (s : List ℕ) (i : ℕ) (h : i < length s) (f : Found) (e : f ≡ foundAt s i) where
-  leads : Leads i i 0 (drop i s) (readingFrom freshReader i (drop i s)) f
+  leads : Leads i i 0 (drop i s) (readingFrom freshReader i) f
   unfolding foundAt
-  leads = subst (Leads i i 0 (drop i s) (readingFrom freshReader i (drop i s))) (sym e) (due-leads (drop i s) i (simp length-drop (omega (arith, h))))
+  leads = subst (Leads i i 0 (drop i s) (readingFrom freshReader i)) (sym e) (due-leads (drop i s) i (simp length-drop (omega (arith, h))))
 
   pub whole-read : {x : Record} {n : ℕ} → f ≡ Whole x n → Stands s i x n
   whole-read q = one-read s i h q leads
 
-  pub bad-read : {why : Fault} → f ≡ Bad why → readingFrom freshReader i (drop i s) ≡ bad why i
-  bad-read q = none-read q leads
+  -- what the recording says from there on
+  pub whole-says : {x : Record} {n : ℕ} → f ≡ Whole x n
+      → readingFrom freshReader i (drop i s) ≡ also x (readingFrom freshReader (i + n) (drop (i + n) s))
+  whole-says {x} {n} q =
+      ap (readingFrom freshReader i) (sym (take-append-drop n (drop i s)) ∙ ap (λ (t : List ℕ). take n (drop i s) ++ t) (drop-drop n i s))
+      ∙ whole-read q .alone (drop (i + n) s)
 
-pub taken-at-once : TakenAtOnce
-taken-at-once = record { whole = λ s at x n h q. whole-read s at h (foundAt s at) refl q; faulty = λ s at why h q. bad-read s at h (foundAt s at) refl q }
+  pub bad-says : {why : Fault} → f ≡ Bad why → readingFrom freshReader i (drop i s) ≡ bad why i
+  bad-says q = none-read q leads

@@ -6,7 +6,7 @@ use native.Mathlib.Omega.{arith}
 use native.Mathlib.Nat.{add-assoc}
 use lib.ListN.{length, drop, take, length-append, take-append-drop}
 use lib.Seq.{drop-append-seam}
-use borrow.Author.Tests.{ne-eqb}
+use borrow.Author.Tests.{lt-ltb}
 use Rattle.numbers.specs.Promises.{Bytes}
 use Rattle.numbers.specs.Seven.{groups, readFrom, readGroups}
 use Rattle.numbers.specs.declared.Seven.{Seven}
@@ -66,14 +66,7 @@ pub data KindSays (at k : ℕ) : Took → Type 0 where
 
 other-kind : (at b : ℕ) → 4 < b → kindByte freshReader at b ≡ refusedAt freshReader at Unknown
 unfolding kindByte
-other-kind at b h =
-    simp (
-      ne-eqb b 0 (λ e. omega arith),
-      ne-eqb b 1 (λ e. omega arith),
-      ne-eqb b 2 (λ e. omega arith),
-      ne-eqb b 3 (λ e. omega arith),
-      ne-eqb b 4 (λ e. omega arith),
-    )
+other-kind at b h = rw (lt-ltb 4 b h) refl
 
 pub kind-says : (at k : ℕ) → KindSays at k (readByte freshReader at k)
 unfolding readByte kindByte
@@ -138,7 +131,7 @@ split u n used h e =
     let v : Value n used ≡ Value n (length (groups n)) = sym e ∙ ap readGroups are ∙ group-trips .back n (drop used u) (g .0) in
     record { below = g .0; are = are; long = cc }
 
-bytes-drop : (i : ℕ) (u : List ℕ) → Bytes u → Bytes (drop i u)
+pub bytes-drop : (i : ℕ) (u : List ℕ) → Bytes u → Bytes (drop i u)
 bytes-drop zero u h = h
 bytes-drop (suc i) [] h = h
 bytes-drop (suc i) (b ∷ u) h = bytes-drop i u (λ j. h (suc j))

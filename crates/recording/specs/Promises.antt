@@ -1,5 +1,5 @@
 -- What is promised of recordings: each record read is what its bytes say, a record may be taken at once, and each of 21 to 24 is given exactly
--- when 01 says. Proved in proofs/Starts.antt and proofs/Exact.antt.
+-- when 01 says. Proved in proofs/Exact.antt.
 use Prim.Native.Nat.{ℕ, _+_, _≤_, _<_}
 use mathlib.Core.Path.{_≡_}
 use mathlib.Core.List.{List, [], _∷_, _++_}
@@ -38,16 +38,11 @@ abbrev pub ReadsBack : Type 0
 ReadsBack = (x : Record) → InRange x → (at : ℕ) (t : List ℕ)
     → readingFrom freshReader at (recordBytes x ++ t) ≡ also x (readingFrom freshReader (at + length (recordBytes x)) t)
 
--- at an offset where a record is due stands x, which has n bytes: the recording says x, and then what it says from behind those bytes on
-pub record Stands (s : List ℕ) (at : ℕ) (x : Record) (n : ℕ) : Type 0 where
-  pub some : 0 < n
-  pub fits : at + n ≤ length s
-  pub says : readingFrom freshReader at (drop at s) ≡ also x (readingFrom freshReader (at + n) (drop (at + n) s))
-
--- what is found where a record is due is what the recording says there: a record that stands there, or why the recording is bad, at that offset
+-- what is found where a record is due, in a recording of bytes: a record in range, whose bytes stand there, n of them; or why none stands there
 pub record TakenAtOnce : Type 0 where
-  pub whole : (s : List ℕ) (at : ℕ) (x : Record) (n : ℕ) → at < length s → foundAt s at ≡ Whole x n → Stands s at x n
-  pub faulty : (s : List ℕ) (at : ℕ) (why : Fault) → at < length s → foundAt s at ≡ Bad why → readingFrom freshReader at (drop at s) ≡ bad why at
+  pub whole : (s : List ℕ) (at : ℕ) → Bytes s → at < length s → (x : Record) (n : ℕ) → foundAt s at ≡ Whole x n
+      → InRange x × (n ≡ length (recordBytes x)) × (drop at s ≡ recordBytes x ++ drop (at + n) s)
+  pub faulty : (s : List ℕ) (at : ℕ) → Bytes s → at < length s → (why : Fault) → foundAt s at ≡ Bad why → Faulty why (drop at s)
 
 -- a recording is good exactly where it is the bytes of records, and its records are those; 21, 22 and 23 exactly where the first record that
 -- is none shows that fault, with its offset; 24 exactly where it is over 65,536 bytes, at offset 0, whatever else it holds

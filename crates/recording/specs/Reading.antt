@@ -1,9 +1,8 @@
 -- Reading a recording, a byte at a time (01, "Recording and report").
-use Prim.Native.Nat.{ℕ, suc, _%_}
-use mathlib.Core.Bool.{cond}
+use Prim.Native.Nat.{ℕ, zero, suc, _%_}
 use mathlib.Core.List.{List, [], _∷_}
 use lib.ListN.{length}
-use Rattle.numbers.specs.Rules.{isnt, atMost, under, same, judged, firstOf, _gives_}
+use Rattle.numbers.specs.Rules.{isnt, under, judged, firstOf, _gives_}
 use Rattle.numbers.specs.Seven.{nextGroup}
 use Rattle.numbers.specs.declared.Group.{Group}
 use Rattle.numbers.specs.declared.Group.the-variants.{More as OneMore, Last, Wrong}
@@ -20,7 +19,7 @@ use Rattle.recording.specs.declared.Heard.{Heard}
 use Rattle.recording.specs.declared.Heard.the-variants.{More, Whole, Bad}
 use Rattle.recording.specs.declared.Took.{Took}
 use Rattle.recording.specs.declared.Verdict.{Verdict}
-use Rattle.recording.specs.declared.Verdict.the-variants.{Good, Bad as Faulty}
+use Rattle.recording.specs.declared.Verdict.the-variants.{Good, Bad as NotGood}
 
 -- ---- the reader
 
@@ -58,17 +57,17 @@ refused r why = refusedAt r (r .start) why
 
 -- ---- a kind byte
 
--- "0 code upper lower; 1 dispenser byte; 2 milliseconds; 3 validator byte; 4 code"; "another kind is 23 at once"
+-- what the bytes behind a listed kind belong to: "0 code upper lower; 1 dispenser byte; 2 milliseconds; 3 validator byte; 4 code"
+abbrev pub placeOf : ℕ → Place
+placeOf zero = Code
+placeOf (suc zero) = FromDispenser
+placeOf (suc (suc zero)) = Milliseconds
+placeOf (suc (suc (suc zero))) = FromValidator
+placeOf (suc (suc (suc (suc k)))) = ToValidator
+
+-- "another kind is 23 at once"
 unfoldable pub kindByte : Reader → ℕ → ℕ → Took
-kindByte r at b =
-    firstOf
-    (same b 0 gives more (awaiting at Code)
-    ∷ same b 1 gives more (awaiting at FromDispenser)
-    ∷ same b 2 gives more (awaiting at Milliseconds)
-    ∷ same b 3 gives more (awaiting at FromValidator)
-    ∷ same b 4 gives more (awaiting at ToValidator)
-    ∷ [])
-    (refusedAt r at Unknown)
+kindByte r at b = firstOf (under 4 b gives refusedAt r at Unknown ∷ []) (more (awaiting at (placeOf b)))
 
 -- ---- a number
 
@@ -123,13 +122,13 @@ readByte r at b = byteIn (r .place) r at b
 -- "cut short"
 abbrev pub endedIn : Place → Reader → Verdict
 endedIn Kind r = Good
-endedIn Code r = Faulty Cut (r .start)
-endedIn Upper r = Faulty Cut (r .start)
-endedIn Lower r = Faulty Cut (r .start)
-endedIn FromDispenser r = Faulty Cut (r .start)
-endedIn Milliseconds r = Faulty Cut (r .start)
-endedIn FromValidator r = Faulty Cut (r .start)
-endedIn ToValidator r = Faulty Cut (r .start)
+endedIn Code r = NotGood Cut (r .start)
+endedIn Upper r = NotGood Cut (r .start)
+endedIn Lower r = NotGood Cut (r .start)
+endedIn FromDispenser r = NotGood Cut (r .start)
+endedIn Milliseconds r = NotGood Cut (r .start)
+endedIn FromValidator r = NotGood Cut (r .start)
+endedIn ToValidator r = NotGood Cut (r .start)
 
 unfoldable pub ended : Reader → Verdict
 ended r = endedIn (r .place) r
@@ -154,7 +153,7 @@ went (Bad why at) rest = bad why at
 
 abbrev pub closing : Verdict → Reading
 closing Good = records []
-closing (Faulty why at) = bad why at
+closing (NotGood why at) = bad why at
 
 -- the step over one byte, folded over bytes of which the first stands at an offset
 unfoldable pub readingFrom : Reader → ℕ → List ℕ → Reading
@@ -168,7 +167,7 @@ readRecording s = firstOf (under mostBytes (length s) gives bad Long 0 ∷ []) (
 -- whether it is good
 abbrev pub verdictOf : Reading → Verdict
 verdictOf (records xs) = Good
-verdictOf (bad why at) = Faulty why at
+verdictOf (bad why at) = NotGood why at
 
 unfoldable pub verdict : List ℕ → Verdict
 verdict s = verdictOf (readRecording s)

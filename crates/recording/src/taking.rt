@@ -1,8 +1,8 @@
 // A record taken at once, where one is due: what the step over one byte makes of its bytes, one after the other.
 ghost use mathlib.Core.Path.{_≡_};
-ghost use Prim.Native.Nat.{ℕ, _<_};
-ghost use Rattle.recording.specs.Reading.{numbered, requestRead};
-ghost use Rattle.recording.specs.Taking.{settled, foundAt, placeOf, asked, sure};
+ghost use Prim.Native.Nat.{ℕ, _≤_, _<_};
+ghost use Rattle.recording.specs.Reading.{placeOf, numbered, requestRead};
+ghost use Rattle.recording.specs.Taking.{settled, foundAt, lastDue, sure};
 ghost use Rattle.recording.specs.declared.Reader.{Reader};
 ghost use Rattle.recording.specs.declared.taking.Found.{Found};
 use crate::Fault;
@@ -24,9 +24,10 @@ pub(crate) enum Glance {
     Longer,
 }
 
-// A record of one number, of kind 1 to 4.
+// A record of one number, of kind 1 to 4. The values are judged as the reader judges them; by the kind itself, since the way over the reader's place is slow.
 fn single(kind: u8, n: u32, size: usize) -> Found
     requires { ⌜ 0 < kind ⌝ }
+    requires { ⌜ kind ≤ 4 ⌝ }
     ensures { λ r. ⌜ ((reader : Reader) (rest : Found) → r ≡ settled (numbered (placeOf kind) reader n .heard) size rest) ⌝ }
 {
     if kind == 2 {
@@ -52,7 +53,7 @@ fn single(kind: u8, n: u32, size: usize) -> Found
 
 // A request whose three numbers have one byte each.
 fn short_request(code: u8, upper: u8, lower: u8) -> Found
-    ensures { λ r. ⌜ ((at : ℕ) (rest : Found) → r ≡ settled (requestRead (asked at code upper) lower .heard) 4 rest) ⌝ }
+    ensures { λ r. ⌜ ((at : ℕ) (rest : Found) → r ≡ settled (requestRead (lastDue at code upper) lower .heard) 4 rest) ⌝ }
 {
     if is_request(code as u64) {
         return Found::Whole(
@@ -67,7 +68,7 @@ fn short_request(code: u8, upper: u8, lower: u8) -> Found
     Found::Bad(Fault::Unknown)
 }
 
-// Records of two to four bytes, by far the most, where four bytes stand there: a number of one or two groups, or a request with three of one group.
+// Where four bytes stand there: a number of one or two groups, or a request with three of one group.
 fn at_a_glance(recording: &[u8], at: usize) -> Glance
     ensures { λ r. ⌜ sure r (foundAt (now (recording .entry)) at) ⌝ }
 {
@@ -137,7 +138,7 @@ fn byte_by_byte(recording: &[u8], at: usize) -> Found
     Found::Bad(Fault::Cut)
 }
 
-// What is found at an offset where a record is due.
+// What is found at an offset where a record is due. Where no byte is left, that is no record: 22.
 pub fn record_at(recording: &[u8], at: usize) -> Found
     ensures { λ r. ⌜ r ≡ foundAt (now (recording .entry)) at ⌝ }
 {

@@ -4,7 +4,8 @@ use Prim.Native.Nat.{_<_}
 use borrow.Author.Tests.{lt-ltb, le-ltb}
 use Rattle.recording.specs.Reading.{byteRead, commandRead}
 use Rattle.recording.proofs.Lists.{listed-same}
-use Rattle.recording.proofs.Glances.{other-place}
+use Rattle.recording.proofs.Places.{last-place}
+use native.Mathlib.Omega.{arith}
 use borrow.Author.Needs.{needs}
 use Rattle.recording.proofs.taking.single.Statement.{statement}
 use Rattle.recording.proofs.taking.single.Tie as tie
@@ -46,14 +47,14 @@ returns-6 c =
     let here = c .before .before .before .before .before .args in
     let some : 0 < here .kind = search needs in
     let listed = sym (c .before .is-command .ensures) ∙ c .if6 .taken in
-    λ r rest. rw (other-place (here .kind) some (c .before .before .before .if2 .left) (c .before .before .before .before .if1 .left) (c .before .before .if4 .left), listed, listed-same (here .n) listed) refl
+    λ r rest. rw (sym (last-place (here .kind) (λ z. omega (arith, some, z)) (c .before .before .before .if2 .left) (c .before .before .before .before .if1 .left) (c .before .before .if4 .left)), listed, listed-same (here .n) listed) refl
 
 returns-7 : tie.Need-returns-7
 unfolding commandRead
 returns-7 c =
     let here = c .before .before .before .before .before .args in
     let some : 0 < here .kind = search needs in
-    λ r rest. rw (other-place (here .kind) some (c .before .before .before .if2 .left) (c .before .before .before .before .if1 .left) (c .before .before .if4 .left), sym (c .before .is-command .ensures) ∙ c .if6 .left) refl
+    λ r rest. rw (sym (last-place (here .kind) (λ z. omega (arith, some, z)) (c .before .before .before .if2 .left) (c .before .before .before .before .if1 .left) (c .before .before .if4 .left)), sym (c .before .is-command .ensures) ∙ c .if6 .left) refl
 
 pub single-spec : {M : Type 1} → statement M
 single-spec =
