@@ -5,10 +5,11 @@ use mathlib.Core.Bool.{true}
 use mathlib.Core.List.{List, [], _∷_}
 use native.Mathlib.Omega.{arith}
 use Rattle.numbers.specs.Rules.{says, under, atMost, _gives_}
-use Rattle.numbers.proofs.Rules.{Alike, alike-back, first-alike, none-alike}
+use Rattle.numbers.proofs.Rules.{Alike}
 use Rattle.ledger.specs.Events.{History}
 use Rattle.ledger.specs.Line.{isOpen as isOpenIn, quietTime, quietNeeded, accepted}
 use Rattle.ledger.specs.Account.{Ending, commands}
+use Rattle.ledger.proofs.Declining.{given-alike}
 use Rattle.ledger.proofs.Laws.{balanced}
 use Rattle.ledger.proofs.Follows.{OpenIn, At, follows-few}
 use Rattle.dispenser.specs.Limits.{quiet, commandLimit}
@@ -64,13 +65,4 @@ alike-at s h code upper lower r t =
 pub declines-by-history : DeclinesByHistory
 declines-by-history cs code upper lower r =
     let s = run freshSession cs in
-    let h = history cs in
-    let rs = requestRefusals (s .line) code upper lower r in
-    let qs = historyRefusals h code upper lower r in
-    let a = alike-at s h code upper lower r (tracks cs) in
-    let w = exactly-when .request s code upper lower r in
-    record {
-      declined = λ why. ((λ e. first-alike rs qs a why (w .declined why .0 e)), λ f. w .declined why .1 (first-alike qs rs (alike-back rs qs a) why f));
-      kept = w .kept;
-      done = ((λ e. none-alike rs qs a (w .done .0 e)), λ n. w .done .1 (none-alike qs rs (alike-back rs qs a) n));
-    }
+    given-alike (exactly-when .request s code upper lower r) (alike-at s (history cs) code upper lower r (tracks cs))

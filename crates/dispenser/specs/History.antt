@@ -6,7 +6,7 @@ use mathlib.Core.Bool.{cond}
 use mathlib.Core.List.{List, [], _∷_}
 use lib.Dec.{eqb}
 use lib.ListN.{length, take, drop}
-use Rattle.numbers.specs.Rules.{Rule, says, under, atMost, isnt, _gives_, First, NoneOf}
+use Rattle.numbers.specs.Rules.{Rule, says, under, atMost, isnt, _gives_}
 use Rattle.numbers.specs.Decimal.{number}
 use Rattle.ledger.specs.Events.{Deed, asks, hears, waits, Left, goes-on, closes, Event, declined, done, History}
 use Rattle.ledger.specs.Line.{isOpen, quietTime, quietNeeded, accepted}
@@ -149,5 +149,5 @@ historyRefusals h code upper lower r =
 -- a request is declined exactly as the history says
 abbrev pub DeclinesByHistory : Type 0
 DeclinesByHistory = (cs : List Call) (code upper lower : ℕ) (r : List ℕ)
-    → Declines (First (historyRefusals (history cs) code upper lower r)) (NoneOf (historyRefusals (history cs) code upper lower r))
-    (run freshSession cs) r (sessionRequest (run freshSession cs) code upper lower r)
+    → Declines (historyRefusals (history cs) code upper lower r) (run freshSession cs) r
+    (sessionRequest (run freshSession cs) code upper lower r)

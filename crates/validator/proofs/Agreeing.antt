@@ -11,7 +11,7 @@ use borrow.Author.Tests.{lt-ltb}
 use Rattle.numbers.specs.Rules.{under, same}
 use Rattle.numbers.specs.Promises.{Bytes}
 use Rattle.numbers.specs.Put.{over}
-use Rattle.numbers.proofs.Rules.{holds-true, fails-false, by-cases, cond-true, cond-false, pick, either-way, Alike, alike-back, first-alike, none-alike}
+use Rattle.numbers.proofs.Rules.{holds-true, fails-false, by-cases, cond-true, cond-false, pick, either-way, Alike}
 use Rattle.numbers.proofs.Writing.{take-over}
 use Rattle.ccnet_frame.specs.Frame.{closed as with-check, frame, judgeFrame, bodyOf}
 use Rattle.ccnet_frame.specs.Class.{classOf, classBytes}
@@ -23,6 +23,7 @@ use Rattle.ccnet_frame.proofs.Frames.{frame-length, good-frame}
 use Rattle.ccnet_frame.proofs.Classes.{classes}
 use Rattle.ledger.specs.Events.{Deed, asks, hears, waits, goes-on, closes, Event, declined, done, isFrame, since}
 use Rattle.ledger.specs.Line.{isOpen, quietTime, accepted}
+use Rattle.ledger.proofs.Declining.{given-alike}
 use Rattle.validator.specs.Limits.{quiet, frameWait, storeSize, commandLimit, types}
 use Rattle.validator.specs.Line.{isOpen as openIn, opened, closed, remembers, inside, waits as still, startByte, addressByte, lengthByte, furtherByte, gathered, heardIn, heard, expiredIn, expired, passed}
 use Rattle.validator.specs.Bills.{bills, bookedBy, poll, remembered}
@@ -724,14 +725,4 @@ module _ (s : Session) (h : Past) (k : Agrees s h) (code : ℕ) (given r : List 
 pub declines-by-history : DeclinesByHistory
 declines-by-history cs code given r =
     let s = run freshSession cs in
-    let h = history cs in
-    let rs = requestRefusals (s .line) code given r in
-    let qs = historyRefusals h code given r in
-    let a = refusals-alike s h (always-agrees cs) code given r in
-    let b = alike-back rs qs a in
-    let d = exactly-when .request s code given r in
-    record {
-      declined = λ why. (λ e. first-alike rs qs a why (d .declined why .0 e), λ f. d .declined why .1 (first-alike qs rs b why f));
-      kept = d .kept;
-      done = (λ t. none-alike rs qs a (d .done .0 t), λ n. d .done .1 (none-alike qs rs b n));
-    }
+    given-alike (exactly-when .request s code given r) (refusals-alike s (history cs) (always-agrees cs) code given r)

@@ -8,7 +8,7 @@ use mathlib.Core.List.{List, [], _∷_, _++_}
 use native.Mathlib.Omega.{arith}
 use lib.Dec.{eqb}
 use lib.ListN.{length, getD, take, drop, replicate}
-use Rattle.numbers.specs.Rules.{Tells, Condition, Rule, First, NoneOf, says, under, atMost, same, both, isnt, and-tells, _gives_}
+use Rattle.numbers.specs.Rules.{Tells, Condition, Rule, says, under, atMost, same, both, isnt, and-tells, _gives_}
 use Rattle.ccnet_frame.specs.Frame.{frame}
 use Rattle.ccnet_frame.specs.Class.{classOf}
 use Rattle.ledger.specs.Events.{Deed, asks, hears, waits, Left, goes-on, closes, Event, declined, done, History, since}
@@ -205,5 +205,5 @@ historyRefusals h code given r =
 -- a request is declined exactly as the history says
 abbrev pub DeclinesByHistory : Type 0
 DeclinesByHistory = (cs : List Call) (code : ℕ) (given r : List ℕ)
-    → Declines (First (historyRefusals (history cs) code given r)) (NoneOf (historyRefusals (history cs) code given r))
-    (run freshSession cs) r (sessionRequest (run freshSession cs) code given r)
+    → Declines (historyRefusals (history cs) code given r) (run freshSession cs) r
+    (sessionRequest (run freshSession cs) code given r)

@@ -2,35 +2,34 @@
 use Prim.Native.Nat.{ℕ}
 use mathlib.Core.Path.{_≡_}
 use mathlib.Core.List.{List, _∷_}
-use mathlib.Core.Logic.{_↔_}
-use Rattle.numbers.specs.Rules.{First, NoneOf}
+use Rattle.numbers.specs.Rules.{Rule}
 use Rattle.ccnet_frame.specs.Frame.{frame}
+use Rattle.ledger.specs.Declining.{GivenExactlyWhen}
 use Rattle.validator.specs.Session.{After, Sent, sent, sending, ack, nak, byteRefusals, tickRefusals, requestRefusals, sessionRequest, sessionByte, sessionTick}
 use Rattle.ledger.specs.declared.Declined.{Declined}
+use Rattle.validator.specs.declared.session.Reply.{Reply}
 use Rattle.validator.specs.declared.session.Reply.the-variants.{Refused, Done}
 use Rattle.validator.specs.declared.session.Closing.{Closing}
 use Rattle.validator.specs.declared.session.Closing.the-variants.{Nothing, Acknowledged, Refused as GaveUp, Illegal, Answered, Damaged, Silent}
 use Rattle.validator.specs.declared.session.Session.{Session}
 
--- the call was declined, and the session and every byte of the room are what they were
-abbrev pub declinedAfter : Session → Declined → List ℕ → After
-declinedAfter s why r = record { session = s; reply = Refused why; room = r }
+-- the call was declined: "session, account and all lent bytes keep their entry values"
+abbrev pub declinedAfter : Session → List ℕ → Declined → After
+declinedAfter s r why = record { session = s; reply = Refused why; room = r }
 
--- "Given exactly when": a call answers a number if and only if it is that of the first condition that holds, and then leaves everything
--- as it was; it does its step if and only if none holds
-pub record Declines (rules : (Declined → Type 0)) (none : Type 0) (s : Session) (r : List ℕ) (w : After) : Type 0 where
-  pub declined : (why : Declined) → (w .reply ≡ Refused why) ↔ rules why
-  pub kept : (why : Declined) → w .reply ≡ Refused why → w ≡ declinedAfter s why r
-  pub done : ((n : ℕ) × ((c : Closing) × (w .reply ≡ Done n c))) ↔ none
+-- "An accepted session call returns how many bytes it put at the room's start and which closing it made, if any"
+abbrev pub IsDone : Reply → Type 0
+IsDone p = (n : ℕ) × ((c : Closing) × (p ≡ Done n c))
+
+-- a call on the session s, lent the room r, answers each number exactly when the rules say, and else does its step
+abbrev pub Declines : List (Rule Declined) → Session → List ℕ → After → Type 0
+Declines rules s r w = GivenExactlyWhen (λ (v : After). v .reply) Refused IsDone (declinedAfter s r) rules w
 
 pub record ExactlyWhen : Type 0 where
   pub request : (s : Session) (code : ℕ) (given r : List ℕ)
-      → Declines (First (requestRefusals (s .line) code given r)) (NoneOf (requestRefusals (s .line) code given r)) s r
-      (sessionRequest s code given r)
-  pub byte : (s : Session) (b : ℕ) (r : List ℕ)
-      → Declines (First (byteRefusals r)) (NoneOf (byteRefusals r)) s r (sessionByte s b r)
-  pub tick : (s : Session) (ms : ℕ) (r : List ℕ)
-      → Declines (First (tickRefusals ms r)) (NoneOf (tickRefusals ms r)) s r (sessionTick s ms r)
+      → Declines (requestRefusals (s .line) code given r) s r (sessionRequest s code given r)
+  pub byte : (s : Session) (b : ℕ) (r : List ℕ) → Declines (byteRefusals r) s r (sessionByte s b r)
+  pub tick : (s : Session) (ms : ℕ) (r : List ℕ) → Declines (tickRefusals ms r) s r (sessionTick s ms r)
 
 -- what a byte or a tick sends, by the closing that it makes: an ACK frame to an answer, a NAK frame to a damaged one, and nothing else
 abbrev pub sends : Closing → List ℕ → Sent
