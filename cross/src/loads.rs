@@ -29,7 +29,7 @@ pub fn load(piece: Piece, seed: u64, length: usize) -> Vec<u8> {
     }
 }
 
-/// A quiet line, a payment, its answer; sometimes bytes that nobody asked for.
+/// A quiet line, a payment and its answer, with a byte behind it that nobody asked for; now and then a refusal, or a wrong answer first.
 fn payment(random: &mut Random, bytes: &mut Vec<u8>) {
     for _ in 0..6 {
         write(recording::TICK, &[1_000], bytes);

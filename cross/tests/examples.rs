@@ -7,8 +7,10 @@ use std::path::Path;
 #[test]
 fn every_example_gives_its_report() {
     let folder = Path::new(env!("CARGO_MANIFEST_DIR")).join("../crates/regression/data");
+    let given = fs::read_to_string(folder.join("../args")).expect("what the program `regression` is given");
+    let given: Vec<&str> = given.lines().collect();
     let mut examples = 0;
-    for entry in fs::read_dir(folder).expect("the examples") {
+    for entry in fs::read_dir(&folder).expect("the examples") {
         let path = entry.expect("an example").path();
         if path.extension().is_some_and(|end| end == "txt") {
             let said = fs::read_to_string(&path).expect("a text");
@@ -16,6 +18,8 @@ fn every_example_gives_its_report() {
             let wanted = fs::read_to_string(path.with_extension("report")).expect("its report");
             assert_eq!(text::recording(&said).as_ref(), Ok(&recording), "{}", path.display());
             assert_eq!(report(&recording), wanted, "{}", path.display());
+            let name = path.file_stem().and_then(|name| name.to_str()).expect("a plain name");
+            assert!(given.contains(&name), "{name} is not replayed by `regression`");
             examples += 1;
         }
     }

@@ -19,8 +19,8 @@ pub(crate) fn put_digits(n: u32, room: &mut [u8]) -> Put {
 pub(crate) fn groups(s: &[u8]) {
     let found = numbers::read_groups(s);
     match found {
-        Seven::Value { number, used } => {
-            sheet::print_form(b" reads as #, length ", &[number]);
+        Seven::Value { value, used } => {
+            sheet::print_form(b" reads as #, length ", &[value]);
             sheet::print_number(used);
             sheet::print_text(b"\n");
         }

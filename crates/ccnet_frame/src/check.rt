@@ -1,7 +1,7 @@
 // The check of CCNET, as 003's Pascal listing reckons it.
 ghost use mathlib.Core.Path.{_≡_};
 ghost use lib.Bits.{bitXor};
-ghost use Rattle.ccnet_frame.specs.Check.{turn, turns, checkFrom, check};
+ghost use Rattle.ccnet_frame.specs.Check.{turn, turns, check};
 
 // 003: the polynomial, its lowest bit first.
 const POLYNOMIAL: u16 = 0x8408;

@@ -19,7 +19,7 @@ use Rattle.dispenser_frame.specs.declared.answer.Answer.{Answer}
 use Rattle.dispenser_frame.specs.declared.answer.Answer.the-variants.{Purged, PaidOne, PaidBoth, Tested, Status}
 use Rattle.dispenser_frame.specs.declared.answer.AnswerRead.the-variants.{Read}
 use Rattle.dispenser_frame.proofs.Trips.{answer-trips}
-use Rattle.dispenser.specs.Account.{notes, plus, sumsOpened, sumsAnswered, sumsRefused, sumsUnknown, sumsRejected, accountOpened, accountAnswered, accountRefused, accountUnknown}
+use Rattle.dispenser.specs.Account.{plus, sumsOpened, sumsAnswered, sumsRefused, sumsUnknown, sumsRejected, accountOpened, accountAnswered, accountRefused, accountUnknown}
 use Rattle.dispenser.specs.Calls.{Bounded}
 use Rattle.dispenser.specs.declared.account.Notes.{Notes}
 use Rattle.dispenser.specs.declared.account.Sums.{Sums}

@@ -7,7 +7,7 @@ use native.Mathlib.Nat.{le-refl}
 use native.Mathlib.Omega.{arith}
 use lib.Dec.{lit≤, lit<}
 use lib.ListN.{length, set, take, length-set, length-replicate}
-use Rattle.numbers.specs.Rules.{under, same, judged, NoneOf}
+use Rattle.numbers.specs.Rules.{under, same, NoneOf}
 use Rattle.numbers.proofs.Rules.{pick, either-way, certain, holds-true}
 use Rattle.dispenser_frame.specs.Table.{known, answerFields, answerLength}
 use Rattle.dispenser_frame.specs.Command.{sendable}
@@ -16,7 +16,7 @@ use Rattle.dispenser_frame.specs.declared.answer.Answer.{Answer}
 use Rattle.dispenser_frame.specs.declared.answer.AnswerRead.{AnswerRead}
 use Rattle.dispenser_frame.specs.declared.answer.AnswerRead.the-variants.{Read, Refused as NotRead}
 use Rattle.dispenser_frame.proofs.Codes.{length-known}
-use Rattle.dispenser.specs.Limits.{quiet, answerWait, nakWait, frameWait, handOvers, nakLimit, commandLimit}
+use Rattle.dispenser.specs.Limits.{answerWait, nakWait, frameWait, handOvers, nakLimit, commandLimit}
 use Rattle.dispenser.specs.Exchange.{isOpen, opened, handedAgain, closed, starting, inside, waits, firstByte, badFrame, startByte, gathered, heardIn, heard, expiredIn, expired, passed}
 use Rattle.dispenser.specs.Account.{freshSums, accountOpened, accountRefused, accountUnknown, accountAnswered}
 use Rattle.dispenser.specs.Session.{StepAfter, ByteAfter, OpeningAfter, openingAfter, refusedOpening, acted, badStep, judgedStep, judgeStep, byteActed, byteRefusals, tickRefusals, requestRefusals, byteStep, tickStep, requestStep, command, bookedBy, requestBooked, freshSession, sessionRequest, sessionByte, sessionTick}

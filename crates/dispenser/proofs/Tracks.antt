@@ -10,7 +10,7 @@ use lib.Dec.{lit≤}
 use lib.ListN.{length, take, set, length-set}
 use lib.Seq.{length-take-le, take-suc-set}
 use borrow.Author.Tests.{lt-ltb}
-use Rattle.numbers.specs.Rules.{says, under, atMost, same}
+use Rattle.numbers.specs.Rules.{under, atMost, same}
 use Rattle.numbers.specs.Put.{laid, refused as not-put}
 use Rattle.numbers.proofs.Rules.{pick, either-way, certain, holds-true, none-judged}
 use Rattle.numbers.proofs.Writing.{take-over}

@@ -2,7 +2,7 @@
 use Prim.Native.Nat.{ℕ, _+_, _≤_, _<_}
 use mathlib.Core.Path.{_≡_, refl, sym, ap, ap₂, _∙_, subst}
 use mathlib.Core.Bool.{Bool, true, false, cond, _||_}
-use mathlib.Core.List.{List, [], _∷_}
+use mathlib.Core.List.{List, []}
 use native.Mathlib.Omega.{arith}
 use lib.ListN.{length, drop}
 use borrow.Author.Tests.{le-ltb}
@@ -13,7 +13,7 @@ use Rattle.validator.specs.Limits.{types}
 use Rattle.validator.specs.Bills.{bookedBy}
 use Rattle.validator.specs.declared.bills.Bills.{Bills}
 use Rattle.recording.specs.Record.{mostBytes}
-use Rattle.recording.specs.Reading.{Reading, records, bad, freshReader, ended, also, readingFrom, readRecording}
+use Rattle.recording.specs.Reading.{Reading, records, bad, freshReader, ended, also, readingFrom}
 use Rattle.recording.specs.Taking.{foundAt}
 use Rattle.recording.specs.declared.Fault.{Fault}
 use Rattle.recording.specs.declared.Fault.the-variants.{Long}

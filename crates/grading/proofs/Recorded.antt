@@ -1,9 +1,9 @@
 -- The sessions after a replay are those that the recording's calls lead to, so that what holds after any calls at all holds of what is reported.
 -- Assumes nothing.
-use Prim.Native.Nat.{ℕ, suc, _+_}
+use Prim.Native.Nat.{ℕ, _+_}
 use mathlib.Core.Path.{_≡_, refl, ap, _∙_}
 use mathlib.Core.Bool.{Bool, true, false, cond}
-use mathlib.Core.List.{List, [], _∷_, _++_}
+use mathlib.Core.List.{List, [], _∷_}
 use native.Mathlib.Omega.{arith}
 use lib.ListN.{length}
 use Rattle.dispenser.specs.Session.{freshSession}
@@ -20,7 +20,7 @@ use Rattle.recording.specs.Reading.{records, readRecording}
 use Rattle.recording.specs.declared.Record.{Record}
 use Rattle.recording.specs.declared.Record.the-variants.{Request, DispenserByte, Tick, ValidatorByte, Command}
 use Rattle.grading.specs.Replay.{Desk, freshDesk, given, run, told, replayed, replayOf}
-use Rattle.grading.specs.Promises.{calls, callsToo, refuses, refusals, Recorded, AsRecorded}
+use Rattle.grading.specs.Promises.{calls, callsToo, refuses, refusals, AsRecorded}
 use Rattle.grading.specs.declared.desk.Findings.{Findings}
 
 pub dispenser-ran : (d : Desk) (xs : List Record) → run d xs .dispenser ≡ ran (d .dispenser) (calls d xs)

@@ -26,7 +26,6 @@ use Rattle.recording.specs.declared.Record.the-variants.{Request, DispenserByte
 use Rattle.grading.specs.declared.desk.Run.{Run}
 use Rattle.grading.specs.declared.desk.Entry.{Entry}
 use Rattle.grading.specs.declared.desk.Entry.the-variants.{Nothing, Asked as Opened, Heard as Closed}
-use Rattle.grading.specs.declared.desk.Ending.{Ending}
 use Rattle.grading.specs.declared.desk.Ending.the-variants.{Good, Bad}
 use Rattle.grading.specs.declared.desk.Findings.{Findings}
 

@@ -1,8 +1,9 @@
 // Replay of a recording through a dispenser session and a validator session, both fresh. The loop owns the parts of both sessions and the
 // rooms that they send into; what a record leaves in the account and among the bills is booked after its step.
+// The dispenser session has `line`, `store` and `room`; the validator session's are `other`, `second` and `wide`, and what ends in `too` is its.
 ghost use mathlib.Core.Path.{_≡_};
 ghost use mathlib.Core.Bool.{cond, _||_};
-ghost use mathlib.Core.List.{List, []};
+ghost use mathlib.Core.List.{List};
 ghost use Prim.Native.Nat.{ℕ, _+_, _<_};
 ghost use Rattle.dispenser.specs.declared.account.Account.{Account};
 ghost use Rattle.validator.specs.Bills.{bookedBy};

@@ -1,14 +1,14 @@
 -- From what is laid to what is said: records in range are read again, and bytes that are no record are refused as they should. Assumes nothing.
-use Prim.Native.Nat.{ℕ, zero, suc, _+_, _≤_, _<_}
-use mathlib.Core.Path.{_≡_, refl, sym, ap, ap₂, _∙_, subst}
+use Prim.Native.Nat.{ℕ, suc, _+_, _≤_, _<_}
+use mathlib.Core.Path.{_≡_, refl, sym, ap, _∙_, subst}
 use mathlib.Core.List.{List, [], _∷_, _++_, append-assoc, append-nil}
 use native.Mathlib.Omega.{arith}
-use lib.ListN.{length, drop, length-append}
+use lib.ListN.{length, length-append}
 use lib.Seq.{drop-append-seam}
-use Rattle.numbers.specs.Seven.{groups, readGroups}
+use Rattle.numbers.specs.Seven.{groups}
 use Rattle.numbers.proofs.Groups.{group-trips}
-use Rattle.recording.specs.Record.{numberEnd, kindOf, numbersOf, howMany, takes, AllBelow, laidNumbers, recordBytes, InRange, laid, AllInRange}
-use Rattle.recording.specs.Reading.{Reading, records, bad, freshReader, readByte, also, went, readingFrom}
+use Rattle.recording.specs.Record.{numberEnd, kindOf, numbersOf, howMany, takes, AllBelow, laidNumbers, recordBytes, laid, AllInRange}
+use Rattle.recording.specs.Reading.{Reading, records, bad, freshReader, also, went, readingFrom}
 use Rattle.recording.specs.Promises.{Faulty, kind, value, number, cut, ReadsBack}
 use Rattle.recording.specs.declared.Fault.{Fault}
 use Rattle.recording.specs.declared.Fault.the-variants.{Unknown}

@@ -2,7 +2,6 @@
 use Prim.Native.Nat.{ℕ, zero, suc, _+_, _≤_, _<_}
 use mathlib.Core.Path.{_≡_, refl, sym, ap, _∙_, subst}
 use mathlib.Core.List.{List, [], _∷_, _++_, append-assoc, append-nil}
-use mathlib.Core.Logic.{_↔_}
 use native.Mathlib.Nat.{le-refl}
 use native.Mathlib.Omega.{arith}
 use lib.ListN.{length, take, drop, length-append, length-drop, take-append-drop}
@@ -10,14 +9,13 @@ use lib.Seq.{length-take-le, drop-drop}
 use Rattle.numbers.specs.Rules.{under}
 use Rattle.numbers.specs.Promises.{Bytes}
 use Rattle.numbers.proofs.Rules.{by-cases}
-use Rattle.recording.specs.Record.{faultNumber, mostBytes, kindOf, numbersOf, howMany, laidNumbers, recordBytes, InRange, laid, AllInRange}
-use Rattle.recording.specs.Reading.{Reading, records, bad, freshReader, ended, readByte, also, went, readingFrom, readRecording}
+use Rattle.recording.specs.Record.{faultNumber, mostBytes, numbersOf, howMany, laidNumbers, recordBytes, InRange, laid, AllInRange}
+use Rattle.recording.specs.Reading.{Reading, records, bad, freshReader, ended, also, went, readingFrom}
 use Rattle.recording.specs.Taking.{foundAt}
 use Rattle.recording.specs.Promises.{Faulty, kind, value, number, cut, Breaks, TakenAtOnce, ExactlyWhen}
 use Rattle.recording.specs.declared.Fault.{Fault}
-use Rattle.recording.specs.declared.Fault.the-variants.{BadNumber, Cut, Unknown, Long}
+use Rattle.recording.specs.declared.Fault.the-variants.{Long}
 use Rattle.recording.specs.declared.Record.{Record}
-use Rattle.recording.specs.declared.Reader.{Reader}
 use Rattle.recording.specs.declared.Took.{Took}
 use Rattle.recording.specs.declared.Heard.{Heard}
 use Rattle.recording.proofs.Folds.{reading-nil, reading-cons, reading-short, reading-long}

@@ -9,7 +9,7 @@ use denote.Enum.Declared.{tagOf}
 use types.Run.{OneOf, miss}
 use borrow.Author.Tests.{lt-ltb, le-ltb}
 use Rattle.recording.specs.Record.{mostBytes}
-use Rattle.recording.specs.Reading.{Reading, records, bad, freshReader, readByte, ended, also, went, closing, readingFrom, readRecording, verdictOf, verdict}
+use Rattle.recording.specs.Reading.{Reading, records, bad, freshReader, readByte, ended, also, went, closing, readingFrom, readRecording, verdictOf}
 use Rattle.recording.specs.declared.Fault.{Fault}
 use Rattle.recording.specs.declared.Fault.the-variants.{Long}
 use Rattle.recording.specs.declared.Record.{Record}

@@ -1,23 +1,23 @@
 -- The numbers of a record, read one behind the other: where the reader stands after some of them, and what the next one brings. Assumes nothing.
-use Prim.Native.Nat.{ℕ, zero, suc, _+_, _%_, _≤_, _<_}
-use mathlib.Core.Path.{_≡_, refl, sym, ap, ap₂, _∙_, subst}
+use Prim.Native.Nat.{ℕ, suc, _+_, _%_, _≤_, _<_}
+use mathlib.Core.Path.{_≡_, refl, ap, _∙_}
 use mathlib.Core.List.{List, [], _∷_, _++_}
 use native.Mathlib.Nat.{mod-eq-of-lt}
 use native.Mathlib.Omega.{arith}
 use lib.ListN.{length, drop}
 use types.Run.{hit}
 use borrow.Author.Tests.{lt-ltb, le-ltb}
-use Rattle.numbers.specs.Rules.{under, atMost, isnt}
-use Rattle.numbers.specs.Seven.{groupAfter, nextGroup, afterGroup, readFrom, readGroups}
+use Rattle.numbers.specs.Rules.{atMost}
+use Rattle.numbers.specs.Seven.{groupAfter, afterGroup, readFrom}
 use Rattle.numbers.specs.declared.Group.{Group}
 use Rattle.numbers.specs.declared.Group.the-variants.{More as OneMore, Last, Wrong}
 use Rattle.numbers.specs.declared.Seven.{Seven}
 use Rattle.numbers.specs.declared.Seven.the-variants.{Value, Bad as NoNumber, Cut as NoEnd}
 use Rattle.numbers.proofs.Rules.{by-cases, holds-true, fails-false}
-use Rattle.numbers.proofs.Groups.{Weight, first-weight, weight-most, Found, found, found-more, next-begun, read-cons, read-nil}
+use Rattle.numbers.proofs.Groups.{Weight, weight-most, Found, found, found-more, next-begun, read-cons, read-nil}
 use Rattle.dispenser_frame.specs.Table.{known}
 use Rattle.recording.specs.Record.{numberEnd, inList, kindOf, numbersOf, howMany, takes, AllBelow}
-use Rattle.recording.specs.Reading.{Reading, records, bad, freshReader, grown, more, whole, numbered, requestRead, byteRead, commandRead, groupRead, grouped, readByte, also, went, closing, ended, readingFrom}
+use Rattle.recording.specs.Reading.{Reading, bad, grown, more, whole, numbered, requestRead, byteRead, commandRead, groupRead, grouped, went, closing, readingFrom}
 use Rattle.recording.specs.declared.Fault.the-variants.{BadNumber, Cut, Unknown}
 use Rattle.recording.specs.declared.Record.{Record}
 use Rattle.recording.specs.declared.Record.the-variants.{Request, DispenserByte, Tick, ValidatorByte, Command}

@@ -1,20 +1,18 @@
 -- A record's numbers: what they bring once they are read, both ways, one behind the other. Assumes nothing.
-use Prim.Native.Nat.{ℕ, zero, suc, _+_, _≤_, _<_}
+use Prim.Native.Nat.{ℕ, zero, suc, _+_, _<_}
 use mathlib.Core.Path.{_≡_, refl, sym, ap, ap₂, _∙_, subst}
 use mathlib.Core.List.{List, [], _∷_, _++_, append-assoc}
 use native.Mathlib.Omega.{arith}
-use native.Mathlib.Nat.{add-assoc}
-use lib.ListN.{length, drop, take, length-append, take-append-drop}
-use lib.Seq.{drop-append-seam}
+use lib.ListN.{length, drop, length-append, take-append-drop}
 use borrow.Author.Tests.{lt-ltb}
 use Rattle.numbers.specs.Promises.{Bytes}
 use Rattle.numbers.specs.Seven.{groups, readFrom, readGroups}
 use Rattle.numbers.specs.declared.Seven.{Seven}
 use Rattle.numbers.specs.declared.Seven.the-variants.{Value, Bad as NoNumber, Cut as NoEnd}
 use Rattle.numbers.proofs.Groups.{Weight, first-weight, group-trips}
-use Rattle.recording.specs.Record.{numberEnd, kindOf, numbersOf, howMany, takes, AllBelow, laidNumbers, recordBytes, InRange}
-use Rattle.recording.specs.Reading.{Reading, records, bad, freshReader, refusedAt, more, numbered, kindByte, readByte, also, went, readingFrom}
-use Rattle.recording.specs.Promises.{Faulty, kind, value, number, cut}
+use Rattle.recording.specs.Record.{numberEnd, kindOf, numbersOf, howMany, takes, AllBelow, laidNumbers, InRange}
+use Rattle.recording.specs.Reading.{Reading, bad, freshReader, refusedAt, more, kindByte, readByte, also, went, readingFrom}
+use Rattle.recording.specs.Promises.{Faulty, value, number, cut}
 use Rattle.recording.specs.declared.Fault.{Fault}
 use Rattle.recording.specs.declared.Fault.the-variants.{BadNumber, Cut, Unknown}
 use Rattle.recording.specs.declared.Record.{Record}
@@ -23,7 +21,6 @@ use Rattle.recording.specs.declared.Reader.{Reader}
 use Rattle.recording.specs.declared.Took.{Took}
 use Rattle.recording.specs.declared.Heard.{Heard}
 use Rattle.recording.specs.declared.Heard.the-variants.{Bad}
-use Rattle.recording.proofs.Folds.{reading-cons}
 use Rattle.recording.proofs.Numbers.{Stage, code, from-dispenser, milliseconds, from-validator, to-validator, stage-kind, Turn, next, done, other, turn, Ends, Comes, number-law}
 
 -- ---- numbers laid

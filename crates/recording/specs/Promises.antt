@@ -2,14 +2,14 @@
 -- when 01 says. Proved in proofs/Exact.antt.
 use Prim.Native.Nat.{ℕ, _+_, _≤_, _<_}
 use mathlib.Core.Path.{_≡_}
-use mathlib.Core.List.{List, [], _∷_, _++_}
+use mathlib.Core.List.{List, _∷_, _++_}
 use mathlib.Core.Logic.{_↔_}
 use lib.ListN.{length, drop}
 use Rattle.numbers.specs.Promises.{Bytes}
 use Rattle.numbers.specs.Seven.{readGroups}
 use Rattle.numbers.specs.declared.Seven.the-variants.{Bad as NoNumber, Cut as NoEnd}
 use Rattle.recording.specs.Record.{mostBytes, howMany, takes, AllBelow, laidNumbers, recordBytes, InRange, laid, AllInRange}
-use Rattle.recording.specs.Reading.{Reading, records, bad, freshReader, also, readingFrom, readRecording}
+use Rattle.recording.specs.Reading.{records, bad, freshReader, also, readingFrom, readRecording}
 use Rattle.recording.specs.Taking.{foundAt}
 use Rattle.recording.specs.declared.Fault.{Fault}
 use Rattle.recording.specs.declared.Fault.the-variants.{BadNumber, Cut, Unknown, Long}

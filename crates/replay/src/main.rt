@@ -55,15 +55,18 @@ fn replay_from(fd: i32, name: &[u8]) {
         return;
     }
     let n = io::count(got, &store);
-    show(&store[..n]);
+    show(name, &store[..n]);
 }
 
-// The report of a recording, written out.
-fn show(recording: &[u8]) {
+// The report of a recording, written out. A room of the longest report's length is always enough.
+fn show(name: &[u8], recording: &[u8]) {
     let mut room = [0u8; report::LONGEST];
     match report::report(recording, &mut room) {
         Put::Bytes(n) => print(&room, n),
-        Put::Refused(_) => {}
+        Put::Refused(_) => {
+            io::write_all(STDERR_FILENO, name);
+            io::write_all(STDERR_FILENO, b": no room for the report\n");
+        }
     }
 }
 

@@ -1,15 +1,13 @@
 -- The longest report: no number in it has more than ten digits, and no type more than two. Assumes nothing.
-use Prim.Native.Nat.{ℕ, zero, suc, _+_, _*_, _≤_, _<_}
+use Prim.Native.Nat.{ℕ, suc, _+_, _*_, _≤_, _<_}
 use mathlib.Core.Path.{_≡_, refl, sym, ap, _∙_, subst}
 use mathlib.Core.Bool.{Bool, true, false, cond}
 use mathlib.Core.List.{List, [], _∷_, _++_}
 use native.Mathlib.Omega.{arith}
-use Prim.Native.String.{String}
 use lib.Dec.{ltb}
 use lib.ListN.{length, getD, set, length-append, length-set}
 use Rattle.numbers.specs.Rules.{under, same}
 use Rattle.numbers.specs.Promises.{Bytes}
-use Rattle.numbers.specs.Decimal.{decimal}
 use Rattle.numbers.proofs.Rules.{by-cases}
 use Rattle.dispenser.specs.Calls.{Bounded, run as ran}
 use Rattle.dispenser.specs.Session.{freshSession}
@@ -18,13 +16,12 @@ use Rattle.dispenser.specs.declared.account.Account.{Account}
 use Rattle.dispenser.specs.declared.session.Session.{Session}
 use Rattle.dispenser.proofs.Keeping.{never-cut}
 use Rattle.validator.specs.Limits.{types}
-use Rattle.validator.specs.Bills.{bills, bookedBy, noBills, plus}
-use Rattle.validator.specs.Session.{freshSession as freshToo, sessionRequest as requestToo, sessionByte as byteToo, sessionTick as tickToo, byteStep, tickStep}
+use Rattle.validator.specs.Bills.{bills, bookedBy, plus}
+use Rattle.validator.specs.Session.{freshSession as freshToo, sessionRequest as requestToo, sessionByte as byteToo, sessionTick as tickToo}
 use Rattle.validator.specs.declared.bills.Bills.{Bills}
 use Rattle.validator.proofs.Agreeing.{kept-by-history}
-use Rattle.recording.specs.Record.{mostBytes, faultNumber, recordBytes, laid, AllInRange}
+use Rattle.recording.specs.Record.{mostBytes, faultNumber, laid}
 use Rattle.recording.specs.Reading.{Reading, records, bad, readRecording}
-use Rattle.recording.specs.Promises.{Breaks}
 use Rattle.recording.specs.declared.Fault.{Fault}
 use Rattle.recording.specs.declared.Fault.the-variants.{BadNumber, Cut, Unknown, Long}
 use Rattle.recording.specs.declared.Record.{Record}
@@ -33,7 +30,7 @@ use Rattle.recording.proofs.Exact.{exactly-when}
 use Rattle.recording.proofs.Back.{length-record}
 use Rattle.recording.proofs.Folds.{reading-long}
 use Rattle.report.specs.Text.{bytesOf, longest}
-use Rattle.grading.specs.Replay.{Desk, freshDesk, given, run, told, badFindings, replayed, replayOf}
+use Rattle.grading.specs.Replay.{Desk, freshDesk, given, run, replayOf}
 use Rattle.report.specs.Report.{field, line, lines, paidPart, unpaidPart, sumsLine, typeLine, typeLines, goodLines, badLine, reportText, reportOf}
 use Rattle.grading.specs.Promises.{calls, callsToo, refuses, refusals}
 use Rattle.report.specs.Promises.{Enough}
@@ -46,12 +43,6 @@ abbrev end32 : ℕ
 end32 = 4_294_967_296
 
 -- ---- the length of each line
-
-field-most : (w : List ℕ) (n : ℕ) → n < end32 → length (w ++ decimal n) ≤ length w + 10
-field-most w n h = simp length-append (omega (arith, ten n h))
-
-line-length : (l : List ℕ) → length (line l) ≡ length l + 1
-line-length l = length-append l (0x0A ∷ [])
 
 -- every sum of a cassette is below 2 to the 32nd
 record Few (s : Sums) : Type 0 where

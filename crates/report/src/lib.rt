@@ -6,7 +6,7 @@ ghost use Prim.Native.Nat.{_+_, _≤_};
 ghost use lib.ListN.{length};
 ghost use Rattle.numbers.specs.Decimal.{decimal};
 ghost use Rattle.numbers.specs.Put.{written, writing};
-ghost use Rattle.report.specs.Text.{Adds};
+ghost use Rattle.report.specs.Text.{longest, Adds};
 ghost use Rattle.report.specs.Report.{line, lines, paidPart, unpaidPart, sumsLine, typeLine, typeLines, goodLines, badLine, reportText, reportOf};
 use dispenser::Account;
 use dispenser::Sums;
@@ -153,9 +153,9 @@ fn put_good(
     records: u32,
     text: &mut [u8],
 ) -> usize
-    requires { ⌜ 931 ≤ length (now text) ⌝ }
+    requires { ⌜ longest ≤ length (now text) ⌝ }
     ensures { λ r. ⌜ Adds (now (text .entry)) 0 (lines (goodLines account bills declined records)) (now (text .exit)) r ⌝ }
-    ensures { λ r. ⌜ r ≤ 931 ⌝ }
+    ensures { λ r. ⌜ r ≤ longest ⌝ }
 {
     let upper = account.upper;
     let lower = account.lower;
@@ -168,9 +168,9 @@ fn put_good(
 
 // Adds the report of a bad recording, its one line.
 fn put_bad(why: Fault, at: u32, text: &mut [u8]) -> usize
-    requires { ⌜ 931 ≤ length (now text) ⌝ }
+    requires { ⌜ longest ≤ length (now text) ⌝ }
     ensures { λ r. ⌜ Adds (now (text .entry)) 0 (line (badLine why at)) (now (text .exit)) r ⌝ }
-    ensures { λ r. ⌜ r ≤ 931 ⌝ }
+    ensures { λ r. ⌜ r ≤ longest ⌝ }
 {
     let a = put_field(b"bad ", why.number() as u32, text, 0);
     put_line(b" at ", at, text, a)
@@ -178,9 +178,9 @@ fn put_bad(why: Fault, at: u32, text: &mut [u8]) -> usize
 
 // Adds the report.
 fn put_report(f: Findings, text: &mut [u8]) -> usize
-    requires { ⌜ 931 ≤ length (now text) ⌝ }
+    requires { ⌜ longest ≤ length (now text) ⌝ }
     ensures { λ r. ⌜ Adds (now (text .entry)) 0 (reportText f) (now (text .exit)) r ⌝ }
-    ensures { λ r. ⌜ r ≤ 931 ⌝ }
+    ensures { λ r. ⌜ r ≤ longest ⌝ }
 {
     let account = f.account;
     let bills = f.bills;

@@ -140,12 +140,6 @@ module _ (s : Session) (h : Past) (k : Agrees s h) where
   abbrev l : Line
   l = s .line
 
-  -- an open command, whichever way it stands
-  open-fewer : (p : Phase) → openIn p ≡ true → Stands p l (s .store) h → Fewer h
-  open-fewer Idle o st = let z : _≡_ {A = ℕ} 0 1 = cc in absurd (omega arith)
-  open-fewer Start o st = st .bound
-  open-fewer Inside o st = st .bound
-
   -- ---- closings
 
   module _ (fewer : Fewer h) (r : List ℕ) where

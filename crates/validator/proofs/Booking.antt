@@ -100,9 +100,6 @@ module _ (l : Line) (bs : List Bills) (h : Past) (base : Base l bs h) (fewer : F
 
   -- the count of each type
   module _ (y : ℕ) (small : y < types) where
-    abbrev had : ℕ
-    had = getD bs y (bills 0) .0
-
     stays : counted y (e ∷ h) ≡ counted y h → (z : ℕ) → (y ≡ z → ⊥) → getD (bookedBy bs z) y (bills 0) .0 ≡ counted y (e ∷ h)
     stays same z n = ap (λ (x : Bills). x .0) (booked-other bs z y n) ∙ base .counts y small ∙ sym same
 

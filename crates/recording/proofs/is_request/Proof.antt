@@ -1,5 +1,5 @@
 -- `recording::is_request` meets its contract. Assumes nothing.
-use mathlib.Core.Path.{_≡_, refl, sym, ap, _∙_}
+use mathlib.Core.Path.{sym}
 use Rattle.recording.proofs.Lists.{known-above, known-length}
 use borrow.Author.Needs.{needs}
 use Rattle.recording.proofs.is_request.Statement.{statement}

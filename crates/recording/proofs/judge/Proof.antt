@@ -1,5 +1,5 @@
 -- `recording::judge` meets its contract. The invariant: the reader goes on from i as the whole recording is judged. Assumes nothing.
-use mathlib.Core.Path.{_≡_, refl, sym, ap, _∙_}
+use mathlib.Core.Path.{_≡_, sym, ap, _∙_}
 use Prim.Native.Nat.{_-_, _≤_}
 use lib.ListN.{length, drop}
 use Rattle.recording.specs.Reading.{readingFrom, verdictOf, verdict}

@@ -1,5 +1,5 @@
 -- `regression::each` is safe and ends: one argument fewer is left at each turn. Assumes nothing.
-use Prim.Native.Nat.{_-_, _≤_}
+use Prim.Native.Nat.{_-_}
 use borrow.Author.Needs.{needs}
 use Rattle.regression.proofs.each.Statement.{statement}
 use Rattle.regression.proofs.each.Tie as tie

@@ -1,8 +1,6 @@
 -- `regression::is_same` is safe and ends. Assumes nothing.
-use Prim.Native.Nat.{_-_, _≤_}
-use mathlib.Core.Path.{_≡_}
+use Prim.Native.Nat.{_-_}
 use lib.ListN.{length}
-use native.Mathlib.Omega.{arith}
 use borrow.Author.Needs.{needs}
 use Rattle.regression.proofs.is_same.Statement.{statement}
 use Rattle.regression.proofs.is_same.Tie as tie

@@ -1,8 +1,7 @@
 -- `regression::put` is safe and ends. Assumes nothing.
-use Prim.Native.Nat.{_-_, _≤_}
+use Prim.Native.Nat.{_-_}
 use mathlib.Core.Path.{_≡_}
 use lib.ListN.{length}
-use native.Mathlib.Omega.{arith}
 use borrow.Author.Needs.{needs}
 use Rattle.regression.proofs.put.Statement.{statement}
 use Rattle.regression.proofs.put.Tie as tie

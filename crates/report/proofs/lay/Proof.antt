@@ -1,5 +1,5 @@
 -- `report::lay` meets its contract. The invariant: i bytes are laid, and the rest of the room is as it was. Assumes nothing.
-use mathlib.Core.Path.{_≡_, refl, sym, ap, _∙_}
+use mathlib.Core.Path.{_≡_, refl}
 use Prim.Native.Nat.{_-_, _≤_}
 use lib.ListN.{length, take, drop, length-set}
 use Rattle.numbers.proofs.Writing.{writing-refused, writing-laid}

@@ -1,5 +1,4 @@
 -- `report::put_bad` meets its contract. Assumes nothing.
-use mathlib.Core.Path.{_≡_, refl, sym, ap, _∙_}
 use Rattle.report.proofs.Lines.{bad-added}
 use borrow.Author.Needs.{needs}
 use native.Mathlib.Omega.{arith}

@@ -1,6 +1,6 @@
 -- `report::put_number` meets its contract. Assumes nothing.
-use mathlib.Core.Path.{_≡_, refl, sym, ap, _∙_}
-use lib.ListN.{length, take, length-take}
+use mathlib.Core.Path.{refl}
+use lib.ListN.{length-take}
 use Rattle.report.proofs.Adding.{ten, digits-put, digits-fit, digits-added}
 use borrow.Author.Needs.{needs}
 use native.Mathlib.Omega.{arith}

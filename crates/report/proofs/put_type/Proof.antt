@@ -1,5 +1,5 @@
 -- `report::put_type` meets its contract. Assumes nothing.
-use lib.ListN.{length, length-append}
+use lib.ListN.{length-append}
 use Rattle.numbers.specs.Decimal.{decimal}
 use Rattle.report.specs.Text.{bytesOf}
 use Rattle.report.proofs.Lines.{two, none-added, type-added}

@@ -1,5 +1,5 @@
 -- `report::report` meets its contract. Assumes nothing.
-use mathlib.Core.Path.{_≡_, refl, sym, ap, _∙_}
+use mathlib.Core.Path.{ap, _∙_}
 use Rattle.numbers.specs.Put.{writing}
 use Rattle.report.specs.Report.{reportText, reportOf}
 use borrow.Author.Needs.{needs}

@@ -1,7 +1,7 @@
 -- `grading::desk::replay` meets its contract. The invariant: what is left of the recording, replayed from what the loop has, is what the whole
 -- recording leaves; there are no more records than bytes read. Assumes nothing.
-use mathlib.Core.Path.{_≡_, refl, sym, ap, _∙_}
-use Prim.Native.Nat.{_+_, _-_, _≤_}
+use mathlib.Core.Path.{_≡_, _∙_}
+use Prim.Native.Nat.{_-_, _≤_}
 use lib.ListN.{length, drop}
 use Rattle.dispenser.specs.Session.{freshSession}
 use Rattle.validator.specs.Session.{freshSession as freshToo}

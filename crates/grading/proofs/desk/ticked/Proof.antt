@@ -7,7 +7,6 @@ use borrow.Author.Needs.{needs}
 use native.Mathlib.Omega.{arith}
 use Rattle.grading.proofs.desk.ticked.Statement.{statement}
 use Rattle.grading.proofs.desk.ticked.Tie as tie
-use Rattle.validator.proofs.step_tick.Reads as session-step-tick-reads′
 
 step-tick-requires : tie.Need-step-tick-requires
 step-tick-requires c κs = search needs

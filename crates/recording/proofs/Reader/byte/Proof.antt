@@ -1,5 +1,5 @@
 -- `recording::Reader::byte` meets its contract. Assumes nothing.
-use mathlib.Core.Path.{_≡_, refl, sym, ap, _∙_}
+use mathlib.Core.Path.{sym, _∙_}
 use Rattle.recording.specs.Reading.{readByte}
 use Rattle.recording.proofs.Places.{begun-byte}
 use borrow.Author.Needs.{needs}

@@ -1,5 +1,5 @@
 -- `recording::Reader::command` meets its contract. Assumes nothing.
-use mathlib.Core.Path.{_≡_, refl, sym, ap, _∙_}
+use mathlib.Core.Path.{sym, _∙_}
 use Rattle.recording.specs.Reading.{commandRead}
 use Rattle.recording.proofs.Lists.{listed-same}
 use borrow.Author.Needs.{needs}

@@ -1,5 +1,5 @@
 -- `recording::Reader::ended` meets its contract. Assumes nothing.
-use mathlib.Core.Path.{_≡_, refl, sym, ap, _∙_}
+use mathlib.Core.Path.{sym}
 use Rattle.recording.specs.Reading.{ended}
 use Rattle.recording.proofs.Places.{begun-ended}
 use borrow.Author.Needs.{needs}

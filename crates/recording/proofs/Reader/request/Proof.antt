@@ -1,5 +1,5 @@
 -- `recording::Reader::request` meets its contract. Assumes nothing.
-use mathlib.Core.Path.{_≡_, refl, sym, ap, _∙_}
+use mathlib.Core.Path.{sym, _∙_}
 use Rattle.recording.specs.Reading.{requestRead}
 use Rattle.recording.proofs.Lists.{known-same}
 use borrow.Author.Needs.{needs}

@@ -2,7 +2,6 @@
 use Prim.Native.Nat.{_+_, _≤_}
 use lib.ListN.{length}
 use Rattle.recording.proofs.Glances.{found-two, found-three, found-four}
-use native.Mathlib.Omega.{arith}
 use borrow.Author.Needs.{needs}
 use Rattle.recording.proofs.taking.at_a_glance.Statement.{statement}
 use Rattle.recording.proofs.taking.at_a_glance.Tie as tie

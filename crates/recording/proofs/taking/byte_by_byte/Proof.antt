@@ -1,6 +1,6 @@
 -- `recording::taking::byte_by_byte` meets its contract. The invariant: the reader goes on from i to what is found at the record's start. Assumes nothing.
-use mathlib.Core.Path.{_≡_, refl, sym, ap, _∙_}
-use Prim.Native.Nat.{_+_, _-_, _≤_}
+use mathlib.Core.Path.{_≡_, refl, sym, _∙_}
+use Prim.Native.Nat.{_-_, _≤_}
 use lib.ListN.{length, drop}
 use Rattle.recording.specs.Taking.{foundFrom, foundAt}
 use Rattle.recording.proofs.Glances.{found-start, goes-on, is-whole, is-bad, found-end}

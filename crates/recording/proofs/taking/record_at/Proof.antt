@@ -1,5 +1,5 @@
 -- `recording::taking::record_at` meets its contract. Assumes nothing.
-use mathlib.Core.Path.{_≡_, subst}
+use mathlib.Core.Path.{subst}
 use Rattle.recording.specs.Taking.{foundAt, sure}
 use Rattle.recording.specs.declared.taking.Glance.{Glance}
 use borrow.Author.Needs.{needs}

@@ -1,5 +1,5 @@
 -- `recording::taking::single` meets its contract, kind by kind. Assumes nothing.
-use mathlib.Core.Path.{_≡_, refl, sym, ap, _∙_}
+use mathlib.Core.Path.{refl, sym, _∙_}
 use Prim.Native.Nat.{_<_}
 use borrow.Author.Tests.{lt-ltb, le-ltb}
 use Rattle.recording.specs.Reading.{byteRead, commandRead}

@@ -1,6 +1,5 @@
 -- `dispenser::account::Sums::answered` meets its contract. Assumes nothing.
 use Rattle.dispenser.specs.Account.{sumsAnswered}
-use native.Mathlib.Omega.{arith}
 use borrow.Author.Needs.{needs}
 use Rattle.dispenser.proofs.account.Sums.answered.Statement.{statement}
 use Rattle.dispenser.proofs.account.Sums.answered.Tie as tie

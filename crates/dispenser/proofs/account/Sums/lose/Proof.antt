@@ -1,6 +1,5 @@
 -- `dispenser::account::Sums::lose` meets its contract. Assumes nothing.
 use Rattle.dispenser.specs.Account.{sumsUnknown}
-use native.Mathlib.Omega.{arith}
 use borrow.Author.Needs.{needs}
 use Rattle.dispenser.proofs.account.Sums.lose.Statement.{statement}
 use Rattle.dispenser.proofs.account.Sums.lose.Tie as tie

@@ -1,6 +1,5 @@
 -- `dispenser::account::Sums::opened` meets its contract. Assumes nothing.
 use Rattle.dispenser.specs.Account.{sumsOpened}
-use native.Mathlib.Omega.{arith}
 use borrow.Author.Needs.{needs}
 use Rattle.dispenser.proofs.account.Sums.opened.Statement.{statement}
 use Rattle.dispenser.proofs.account.Sums.opened.Tie as tie

@@ -1,6 +1,5 @@
 -- `dispenser::account::Sums::refuse` meets its contract. Assumes nothing.
 use Rattle.dispenser.specs.Account.{sumsRefused}
-use native.Mathlib.Omega.{arith}
 use borrow.Author.Needs.{needs}
 use Rattle.dispenser.proofs.account.Sums.refuse.Statement.{statement}
 use Rattle.dispenser.proofs.account.Sums.refuse.Tie as tie

@@ -1,6 +1,5 @@
 -- `dispenser::account::Sums::reject` meets its contract. Assumes nothing.
 use Rattle.dispenser.specs.Account.{sumsRejected}
-use native.Mathlib.Omega.{arith}
 use borrow.Author.Needs.{needs}
 use Rattle.dispenser.proofs.account.Sums.reject.Statement.{statement}
 use Rattle.dispenser.proofs.account.Sums.reject.Tie as tie

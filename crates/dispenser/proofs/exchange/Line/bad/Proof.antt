@@ -1,7 +1,6 @@
 -- `dispenser::exchange::Line::bad` meets its contract. Assumes nothing.
-use borrow.Author.Tests.{lt-ltb, le-ltb, eq-eqb, ne-eqb}
+use borrow.Author.Tests.{lt-ltb, le-ltb}
 use Rattle.dispenser.specs.Exchange.{badFrame}
-use native.Mathlib.Omega.{arith}
 use borrow.Author.Needs.{needs}
 use Rattle.dispenser.proofs.exchange.Line.bad.Statement.{statement}
 use Rattle.dispenser.proofs.exchange.Line.bad.Tie as tie

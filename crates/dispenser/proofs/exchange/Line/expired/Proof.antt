@@ -1,7 +1,6 @@
 -- `dispenser::exchange::Line::expired` meets its contract, phase by phase. Assumes nothing.
 use mathlib.Core.Path.{sym, ap, _∙_}
 use Rattle.dispenser.specs.Exchange.{expiredIn, expired}
-use native.Mathlib.Omega.{arith}
 use borrow.Author.Needs.{needs}
 use Rattle.dispenser.proofs.exchange.Line.expired.Statement.{statement}
 use Rattle.dispenser.proofs.exchange.Line.expired.Tie as tie

@@ -1,7 +1,6 @@
 -- `dispenser::exchange::Line::first` meets its contract. Assumes nothing.
 use borrow.Author.Tests.{lt-ltb, le-ltb, eq-eqb, ne-eqb}
 use Rattle.dispenser.specs.Exchange.{firstByte}
-use native.Mathlib.Omega.{arith}
 use borrow.Author.Needs.{needs}
 use Rattle.dispenser.proofs.exchange.Line.first.Statement.{statement}
 use Rattle.dispenser.proofs.exchange.Line.first.Tie as tie

@@ -1,6 +1,6 @@
 -- `dispenser::exchange::Line::gather` meets its contract. Assumes nothing.
 use Prim.Native.Nat.{_+_}
-use borrow.Author.Tests.{lt-ltb, le-ltb, eq-eqb, ne-eqb}
+use borrow.Author.Tests.{lt-ltb, le-ltb}
 use Rattle.dispenser.specs.Exchange.{gathered}
 use native.Mathlib.Omega.{arith}
 use borrow.Author.Needs.{needs}

@@ -1,7 +1,6 @@
 -- `dispenser::exchange::Line::heard` meets its contract, phase by phase. Assumes nothing.
 use mathlib.Core.Path.{sym, ap, _∙_}
 use Rattle.dispenser.specs.Exchange.{heardIn, heard}
-use native.Mathlib.Omega.{arith}
 use borrow.Author.Needs.{needs}
 use Rattle.dispenser.proofs.exchange.Line.heard.Statement.{statement}
 use Rattle.dispenser.proofs.exchange.Line.heard.Tie as tie

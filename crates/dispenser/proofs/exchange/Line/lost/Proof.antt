@@ -1,5 +1,4 @@
 -- `dispenser::exchange::Line::lost` meets its contract. Assumes nothing.
-use native.Mathlib.Omega.{arith}
 use borrow.Author.Needs.{needs}
 use Rattle.dispenser.proofs.exchange.Line.lost.Statement.{statement}
 use Rattle.dispenser.proofs.exchange.Line.lost.Tie as tie

@@ -1,7 +1,6 @@
 -- `dispenser::exchange::Line::start` meets its contract. Assumes nothing.
-use borrow.Author.Tests.{lt-ltb, le-ltb, eq-eqb, ne-eqb}
+use borrow.Author.Tests.{eq-eqb, ne-eqb}
 use Rattle.dispenser.specs.Exchange.{startByte}
-use native.Mathlib.Omega.{arith}
 use borrow.Author.Needs.{needs}
 use Rattle.dispenser.proofs.exchange.Line.start.Statement.{statement}
 use Rattle.dispenser.proofs.exchange.Line.start.Tie as tie
