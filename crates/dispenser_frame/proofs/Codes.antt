@@ -98,15 +98,7 @@ last-code code k a b c d e f =
     not-this : {A B C : Type 0} → (A → ⊥) → (B → C) → A ⊎ B → C
     not-this n g w = ⊎-elim (λ x. absurd (n x)) g w
 
--- the places of the counts that are asked lie in the frame
-pub upper-fits : (code : ℕ) → line code .upper ≡ true → 8 ≤ 6 + sizes (commandFields code)
-unfolding sizes
-upper-fits code e = rw e (go (line code .lower))
-  where
-    go : (lo : Bool) → 8 ≤ 6 + sizes (askedFields true ++ askedFields lo)
-    go true = lit≤ tt
-    go false = lit≤ tt
-
+-- the place of the lower count, where one is asked, lies in the frame
 pub lower-fits : (code : ℕ) → line code .lower ≡ true → cond (line code .upper) 6 4 + 4 ≤ 6 + sizes (commandFields code)
 unfolding sizes
 lower-fits code e = rw e (go (line code .upper))

@@ -14,11 +14,11 @@ use Rattle.numbers.proofs.Rules.{by-cases, holds-true, fails-false}
 use Rattle.numbers.specs.Decimal.{digitsOnly, number, readDigits}
 use Rattle.numbers.specs.declared.Number.{Number}
 use Rattle.numbers.specs.declared.Number.the-variants.{Of, NoNumber}
-use Rattle.dispenser_frame.specs.Layout.{Field, count, byte, sizes, allFit, allValues, allInRange}
+use Rattle.dispenser_frame.specs.Layout.{Field, count, byte, size, sizes, allFit, allValues, allInRange}
 use Rattle.dispenser_frame.specs.Answer.{readAs}
 use Rattle.dispenser_frame.specs.Table.{line, asks, askedFields}
 use Rattle.dispenser_frame.specs.Command.{countsFit, askedAt, commandIn}
-use Rattle.dispenser_frame.specs.Parts.{countAt, rawAt, rawValues, fieldFaults, fieldsRead, countsRead}
+use Rattle.dispenser_frame.specs.Parts.{countAt, fieldFaults, fieldsRead, countsRead}
 use Rattle.dispenser_frame.specs.declared.command.CommandRead.{CommandRead}
 use Rattle.dispenser_frame.specs.declared.command.CommandRead.the-variants.{Read, Refused as NoCommand}
 use Rattle.dispenser_frame.specs.declared.answer.Answer.{Answer}
@@ -43,6 +43,15 @@ count-found s at h =
     let p = take 2 (drop at s) in
     let e : length p ≡ 2 = length-take-le 2 (drop at s) (simp length-drop (omega arith)) in
     rw (k, e) (counted-by-test (digitsOnly p .test) (number p))
+
+-- a field's value as the reader takes it, a count as at `countAt`
+abbrev pub rawAt : Field → ℕ → List ℕ → ℕ
+rawAt (count low high) at s = countAt at s
+rawAt (byte low high) at s = getD s at 0
+
+unfoldable pub rawValues : List Field → ℕ → List ℕ → List ℕ
+rawValues [] at s = []
+rawValues (f ∷ fs) at s = rawAt f at s ∷ rawValues fs (at + size f) s
 
 -- ---- fields whose counts are all below 100, as are those of the table
 

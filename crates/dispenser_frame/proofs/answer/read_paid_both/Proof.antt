@@ -1,11 +1,9 @@
 -- `dispenser_frame::answer::read_paid_both` meets its contract, field by field. Assumes nothing.
 use mathlib.Core.Path.{_≡_, _∙_}
-use mathlib.Core.Bool.{and-assoc}
 use lib.Dec.{lit<}
 use Rattle.dispenser_frame.specs.Layout.{allInRange}
 use Rattle.dispenser_frame.specs.Table.{paid-both, paid-both-fields}
-use Rattle.dispenser_frame.specs.Parts.{rawValues}
-use Rattle.dispenser_frame.proofs.Raw.{fields-good, fields-bad}
+use Rattle.dispenser_frame.proofs.Raw.{rawValues, fields-good, fields-bad}
 use native.Mathlib.Omega.{arith}
 use borrow.Author.Needs.{needs}
 use Rattle.dispenser_frame.proofs.answer.read_paid_both.Statement.{statement}
@@ -38,32 +36,20 @@ count-requires-5 c κs = search needs
 count-requires-6 : tie.Need-count-requires-6
 count-requires-6 c κs = search needs
 
-passed-requires : tie.Need-passed-requires
-passed-requires c κs = search needs
-
-passed-requires-2 : tie.Need-passed-requires-2
-passed-requires-2 c κs = search needs
-
-both-requires : tie.Need-both-requires
-both-requires c κs = search needs
-
-endings-fit-requires : tie.Need-endings-fit-requires
-endings-fit-requires c κs = search needs
-
-both-requires-2 : tie.Need-both-requires-2
-both-requires-2 c κs = search needs
+paid-both-fits-requires : tie.Need-paid-both-fits-requires
+paid-both-fits-requires c κs = search needs
 
 is-listed-requires : tie.Need-is-listed-requires
 is-listed-requires c κs = search needs
 
 -- the test is that of the fields' ranges
-ranges : (c : tie.After-both2) → allInRange paid-both-fields (rawValues paid-both-fields 4 (c .before .before .before .before .before .before .before .before .before .before .before .before .before .before .before .args .s .now)) .test ≡ c .both2 .result
-unfolding allInRange rawValues
-ranges c = simp (c .both2 .ensures, c .before .endings-fit .ensures, c .before .before .both .ensures, c .before .before .before .passed2 .ensures, c .before .before .before .before .passed .ensures, c .before .before .before .before .before .count6 .ensures, c .before .before .before .before .before .before .count5 .ensures, c .before .before .before .before .before .before .before .before .before .before .count4 .ensures, c .before .before .before .before .before .before .before .before .before .before .before .count3 .ensures, c .before .before .before .before .before .before .before .before .before .before .before .before .count2 .ensures, c .before .before .before .before .before .before .before .before .before .before .before .before .before .count .ensures, and-assoc)
+ranges : (c : tie.After-paid-both-fits) → allInRange paid-both-fields (rawValues paid-both-fields 4 (c .before .before .before .before .before .before .before .before .before .before .before .args .s .now)) .test ≡ c .paid-both-fits .result
+unfolding rawValues
+ranges c = simp (c .paid-both-fits .ensures, c .before .count6 .ensures, c .before .before .count5 .ensures, c .before .before .before .before .before .before .count4 .ensures, c .before .before .before .before .before .before .before .count3 .ensures, c .before .before .before .before .before .before .before .before .count2 .ensures, c .before .before .before .before .before .before .before .before .before .count .ensures)
 
 returns : tie.Need-returns
 unfolding rawValues
-returns c = simp (c .is-listed .ensures, c .before .before .before .before .before .before .before .count6 .ensures, c .before .before .before .before .before .before .before .before .count5 .ensures, c .before .before .before .before .before .before .before .before .before .before .before .before .count4 .ensures, c .before .before .before .before .before .before .before .before .before .before .before .before .before .count3 .ensures, c .before .before .before .before .before .before .before .before .before .before .before .before .before .before .count2 .ensures, c .before .before .before .before .before .before .before .before .before .before .before .before .before .before .before .count .ensures) (fields-good paid-both-fields paid-both _ (lit< tt, (lit< tt, (lit< tt, (lit< tt, (lit< tt, (lit< tt, tt)))))) (ranges (c .before .before) ∙ c .before .if1 .taken))
+returns c = simp (c .is-listed .ensures, c .before .before .before .count6 .ensures, c .before .before .before .before .count5 .ensures, c .before .before .before .before .before .before .before .before .count4 .ensures, c .before .before .before .before .before .before .before .before .before .count3 .ensures, c .before .before .before .before .before .before .before .before .before .before .count2 .ensures, c .before .before .before .before .before .before .before .before .before .before .before .count .ensures) (fields-good paid-both-fields paid-both _ (lit< tt, (lit< tt, (lit< tt, (lit< tt, (lit< tt, (lit< tt, tt)))))) (ranges (c .before .before) ∙ c .before .if1 .taken))
 
 returns-2 : tie.Need-returns-2
 returns-2 c = fields-bad paid-both-fields paid-both _ (lit< tt, (lit< tt, (lit< tt, (lit< tt, (lit< tt, (lit< tt, tt)))))) (ranges (c .before) ∙ c .if1 .left)
@@ -81,11 +67,7 @@ read-paid-both-spec =
     shared-slice-read-lower-state
     count-requires-5
     count-requires-6
-    passed-requires
-    passed-requires-2
-    both-requires
-    endings-fit-requires
-    both-requires-2
+    paid-both-fits-requires
     is-listed-requires
     returns
     returns-2)

@@ -3,8 +3,7 @@ use mathlib.Core.Path.{_≡_, _∙_}
 use mathlib.Core.Bool.{and-true}
 use Rattle.dispenser_frame.specs.Layout.{allInRange}
 use Rattle.dispenser_frame.specs.Table.{purged, purged-fields}
-use Rattle.dispenser_frame.specs.Parts.{rawValues}
-use Rattle.dispenser_frame.proofs.Raw.{fields-good, fields-bad}
+use Rattle.dispenser_frame.proofs.Raw.{rawValues, fields-good, fields-bad}
 use native.Mathlib.Omega.{arith}
 use borrow.Author.Needs.{needs}
 use Rattle.dispenser_frame.proofs.answer.read_purged.Statement.{statement}

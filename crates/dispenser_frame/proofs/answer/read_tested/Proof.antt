@@ -1,13 +1,13 @@
 -- `dispenser_frame::answer::read_tested` meets its contract, the two fixed bytes first. Assumes nothing.
+use Prim.Native.Nat.{ℕ}
 use mathlib.Core.Path.{_≡_, _∙_}
+use mathlib.Core.Bool.{_&&_}
 use mathlib.Core.List.{[], _∷_}
 use lib.Dec.{eqb, lit<}
-use lib.ListN.{getD}
 use Rattle.numbers.specs.Rules.{within}
 use Rattle.dispenser_frame.specs.Layout.{allInRange}
-use Rattle.dispenser_frame.specs.Table.{error, state, rejects, tested, tested-fields}
-use Rattle.dispenser_frame.specs.Parts.{rawValues}
-use Rattle.dispenser_frame.proofs.Raw.{fields-good, fields-bad, thirty-same, fixed-first}
+use Rattle.dispenser_frame.specs.Table.{tested, tested-fields}
+use Rattle.dispenser_frame.proofs.Raw.{rawValues, fields-good, fields-bad, thirty-same, fixed-first}
 use native.Mathlib.Omega.{arith}
 use borrow.Author.Needs.{needs}
 use Rattle.dispenser_frame.proofs.answer.read_tested.Statement.{statement}
@@ -34,33 +34,29 @@ shared-slice-read-both-2 c = search needs
 both-requires : tie.Need-both-requires
 both-requires c κs = search needs
 
-count-within-requires : tie.Need-count-within-requires
-count-within-requires c κs = search needs
-
-ending-fits-requires : tie.Need-ending-fits-requires
-ending-fits-requires c κs = search needs
+tested-fits-requires : tie.Need-tested-fits-requires
+tested-fits-requires c κs = search needs
 
 both-requires-2 : tie.Need-both-requires-2
 both-requires-2 c κs = search needs
 
-both-requires-3 : tie.Need-both-requires-3
-both-requires-3 c κs = search needs
-
 is-listed-requires : tie.Need-is-listed-requires
 is-listed-requires c κs = search needs
 
+-- the fixed bytes tested first
+fixed : (chk a b e s r : ℕ) → allInRange tested-fields (chk ∷ a ∷ b ∷ e ∷ s ∷ r ∷ []) .test
+    ≡ ((eqb a 0x30 && eqb b 0x30) && allInRange tested-fields (chk ∷ 0x30 ∷ 0x30 ∷ e ∷ s ∷ r ∷ []) .test)
+unfolding allInRange
+fixed chk a b e s r = rw (thirty-same a, thirty-same b) (fixed-first (eqb a 0x30) (eqb b 0x30) (within 0 29 chk .test) _)
+
 -- the test is that of the fields' ranges
-ranges : (c : tie.After-both3) → allInRange tested-fields (rawValues tested-fields 4 (c .before .before .before .before .before .before .before .before .before .before .before .before .args .s .now)) .test ≡ c .both3 .result
-unfolding allInRange rawValues
-ranges c =
-    let s = c .before .before .before .before .before .before .before .before .before .before .before .before .args .s .now in
-    let ending = allInRange (error ∷ state ∷ rejects ∷ []) (getD s 8 0 ∷ getD s 9 0 ∷ c .before .before .before .before .before .before .before .count2 .result ∷ []) .test in
-    simp (thirty-same, ← c .before .before .before .before .before .before .before .before .before .before .count .ensures, ← c .before .before .before .before .before .before .before .count2 .ensures, c .both3 .ensures, c .before .both2 .ensures, c .before .before .ending-fits .ensures, c .before .before .before .count-within .ensures, c .before .before .before .before .both .ensures)
-    (fixed-first (eqb (getD s 6 0) 0x30) (eqb (getD s 7 0) 0x30) (within 0 29 (c .before .before .before .before .before .before .before .before .before .before .count .result) .test) ending)
+ranges : (c : tie.After-both2) → allInRange tested-fields (rawValues tested-fields 4 (c .before .before .before .before .before .before .before .before .before .before .args .s .now)) .test ≡ c .both2 .result
+unfolding rawValues
+ranges c = fixed _ _ _ _ _ _ ∙ simp (c .both2 .ensures, c .before .tested-fits .ensures, c .before .before .both .ensures, c .before .before .before .before .before .count2 .ensures, c .before .before .before .before .before .before .before .before .count .ensures)
 
 returns : tie.Need-returns
 unfolding rawValues
-returns c = simp (c .is-listed .ensures, c .before .before .before .before .before .before .before .before .before .count2 .ensures, c .before .before .before .before .before .before .before .before .before .before .before .before .count .ensures) (fields-good tested-fields (tested _) _ (lit< tt, (lit< tt, tt)) (ranges (c .before .before) ∙ c .before .if1 .taken))
+returns c = simp (c .is-listed .ensures, c .before .before .before .before .before .before .before .count2 .ensures, c .before .before .before .before .before .before .before .before .before .before .count .ensures) (fields-good tested-fields (tested _) _ (lit< tt, (lit< tt, tt)) (ranges (c .before .before) ∙ c .before .if1 .taken))
 
 returns-2 : tie.Need-returns-2
 returns-2 c = fields-bad tested-fields (tested _) _ (lit< tt, (lit< tt, tt)) (ranges (c .before) ∙ c .if1 .left)
@@ -76,10 +72,8 @@ read-tested-spec =
     shared-slice-read-both
     shared-slice-read-both-2
     both-requires
-    count-within-requires
-    ending-fits-requires
+    tested-fits-requires
     both-requires-2
-    both-requires-3
     is-listed-requires
     returns
     returns-2)
