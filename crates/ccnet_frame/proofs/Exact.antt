@@ -1,6 +1,6 @@
 -- Each number is given exactly when 01 says, by the one law for every list of rules. Assumes nothing.
 use Prim.Native.Nat.{ℕ}
-use mathlib.Core.Path.{ap}
+use mathlib.Core.Path.{_≡_, ap}
 use native.Mathlib.Omega.{arith}
 use lib.ListN.{getD}
 use Rattle.numbers.specs.Put.{refused, laid}

@@ -5,7 +5,7 @@ use mathlib.Core.Bool.{Bool}
 use mathlib.Core.List.{List, [], _∷_, map}
 use mathlib.Core.Logic.{_⊎_, _↔_}
 use lib.ListN.{length, take}
-use Rattle.numbers.specs.Rules.{Exactly, within, same}
+use Rattle.numbers.specs.Rules.{Exactly, within}
 use Rattle.numbers.specs.Put.{written, refused, laid}
 use Rattle.numbers.specs.declared.Put.the-variants.{Bytes}
 use Rattle.dispenser_frame.specs.Table.{table, commandFields, answerFields, commandLength, answerLength}

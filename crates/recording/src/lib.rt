@@ -7,7 +7,7 @@ pub use taking::record_at;
 ghost use mathlib.Core.Path.{_≡_};
 ghost use Rattle.dispenser_frame.specs.Table.{known};
 ghost use Rattle.recording.specs.Record.{faultNumber, inList};
-ghost use Rattle.recording.specs.Reading.{freshReader, awaiting, grown, nextNumber, more, whole, refusedAt, placeOf, kindByte, numbered, requestRead, byteRead, commandRead, grouped, readByte, ended, verdict};
+ghost use Rattle.recording.specs.Reading.{freshReader, awaiting, grown, nextNumber, more, whole, refusedAt, kindByte, numbered, requestRead, byteRead, commandRead, grouped, readByte, ended, verdict};
 use dispenser_frame::answer_length;
 use numbers::Group;
 use numbers::next_group;
@@ -144,25 +144,6 @@ pub(crate) fn is_request(code: u64) -> bool
     0 < answer_length(code as u8)
 }
 
-// What the bytes behind a kind belong to.
-fn place_of(kind: u8) -> Place
-    ensures { λ r. ⌜ r ≡ placeOf kind ⌝ }
-{
-    if kind == 0 {
-        return Place::Code;
-    }
-    if kind == 1 {
-        return Place::FromDispenser;
-    }
-    if kind == 2 {
-        return Place::Milliseconds;
-    }
-    if kind == 3 {
-        return Place::FromValidator;
-    }
-    Place::ToValidator
-}
-
 impl Reader {
     // The most bytes that a recording may have.
     pub const MOST: usize = 65_536;
@@ -232,10 +213,22 @@ impl Reader {
     fn kind(self, at: u64, b: u8) -> Took
         ensures { λ r. ⌜ r ≡ kindByte self at b ⌝ }
     {
-        if 4 < b {
-            return self.refused(Fault::Unknown, at);
+        if b == 0 {
+            return more(Reader::awaiting(at, Place::Code));
         }
-        more(Reader::awaiting(at, place_of(b)))
+        if b == 1 {
+            return more(Reader::awaiting(at, Place::FromDispenser));
+        }
+        if b == 2 {
+            return more(Reader::awaiting(at, Place::Milliseconds));
+        }
+        if b == 3 {
+            return more(Reader::awaiting(at, Place::FromValidator));
+        }
+        if b == 4 {
+            return more(Reader::awaiting(at, Place::ToValidator));
+        }
+        self.refused(Fault::Unknown, at)
     }
 
     // The last number of a request is read.
