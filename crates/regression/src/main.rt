@@ -3,6 +3,7 @@
 use libc::STDERR_FILENO;
 use libc::STDOUT_FILENO;
 use numbers::Put;
+use recording::Verdict;
 
 // One byte more than a recording may have.
 const RECORDING: usize = 65_537;
@@ -78,14 +79,25 @@ fn front<'a>(text: &'a [u8], n: usize) -> &'a [u8] {
     text
 }
 
-// Holds the report of a recording to the one that it must give.
+// Holds the report of a recording to the one that it must give, and what is judged of the recording to that report.
 fn hold(name: &[u8], recording: &[u8], wanted: &[u8]) {
+    if is_bad(recording) != is_same(front(wanted, 4), b"bad ") {
+        io::write_all(STDOUT_FILENO, name);
+        io::write_all(STDOUT_FILENO, b": NOT judged as it must be\n");
+    }
     let mut room = [0u8; report::LONGEST];
     match report::report(recording, &mut room) {
         Put::Bytes(n) => say(name, front(&room, n), wanted),
         Put::Refused(_) => {
             io::write_all(STDERR_FILENO, b"no room for the report\n");
         }
+    }
+}
+
+fn is_bad(recording: &[u8]) -> bool {
+    match recording::judge(recording) {
+        Verdict::Good => false,
+        Verdict::Bad(_, _) => true,
     }
 }
 
