@@ -1,12 +1,12 @@
 -- A recording is good exactly where it is the bytes of records, and bad exactly as its first record that is none says. Assumes nothing.
 use Prim.Native.Nat.{ℕ, zero, suc, _+_, _≤_, _<_}
-use mathlib.Core.Path.{_≡_, refl, sym, ap, _∙_, subst}
+use mathlib.Core.Path.{_≡_, refl, sym, ap, ap₂, _∙_, subst}
 use mathlib.Core.List.{List, [], _∷_, _++_, append-assoc, append-nil}
 use native.Mathlib.Nat.{le-refl}
 use native.Mathlib.Omega.{arith}
 use lib.ListN.{length, take, drop, length-append, length-drop, take-append-drop}
 use lib.Seq.{length-take-le, drop-drop}
-use Rattle.numbers.specs.Rules.{under}
+use Rattle.numbers.specs.Rules.{under, atMost}
 use Rattle.numbers.specs.Promises.{Bytes}
 use Rattle.numbers.proofs.Rules.{by-cases}
 use Rattle.recording.specs.Record.{faultNumber, mostBytes, numbersOf, howMany, laidNumbers, recordBytes, InRange, laid, AllInRange}
@@ -17,11 +17,13 @@ use Rattle.recording.specs.declared.Fault.{Fault}
 use Rattle.recording.specs.declared.Fault.the-variants.{Long}
 use Rattle.recording.specs.declared.Record.{Record}
 use Rattle.recording.specs.declared.Took.{Took}
+use Rattle.recording.specs.declared.taking.Found.{Found}
+use Rattle.recording.specs.declared.taking.Found.the-variants.{Whole, Bad}
 use Rattle.recording.specs.declared.Heard.{Heard}
 use Rattle.recording.proofs.Folds.{reading-nil, reading-cons, reading-short, reading-long}
 use Rattle.recording.proofs.Trips.{laid-none, bytes-drop, KindSays, listed, unlisted, kind-says, Rest, whole, fault, rests}
 use Rattle.recording.proofs.Starts.{whole-read, bad-says}
-use Rattle.recording.proofs.Back.{length-record, bytes-record, alsos, alsos-bad, alsos-none, records-back, faulty-back}
+use Rattle.recording.proofs.Back.{length-record, bytes-record, reads-back, alsos, alsos-bad, alsos-none, records-back, faulty-back}
 
 -- ---- what is said of bytes that start at an offset is so
 
@@ -128,21 +130,89 @@ first-said at u why h e =
     by : {i : ℕ} (b : Breaks why i u) → i ≡ 0 → Faulty why u
     by b z = subst (Faulty why) (sym (b .are ∙ ap (λ (l : List ℕ). l ++ b .rest) (empty (laid (b .good)) (omega (arith, b .place, z))))) (b .fault)
 
-pub taken-at-once : TakenAtOnce
+apart : {xs : List Record} {why : Fault} {at : ℕ} → bad why at ≡ records xs → ⊥
+apart e = let z : _≡_ {A = ℕ} 0 1 = cc in omega arith
+
+-- the rest shows no fault before its own start
+no-earlier : (x : Record) {why : Fault} (a at : ℕ) (t : List ℕ) (g : Reading) → Said a t g → also x g ≡ bad why at → at < a → ⊥
+no-earlier x a at t (records xs) d q l = apart (sym q)
+no-earlier x a at t (bad w p) d q l = let e : p ≡ at = cc in omega (arith, e, d .1 .0)
+
+-- of two beginnings of the same bytes the longer begins with the shorter
+begins : (a b t u : List ℕ) → a ++ t ≡ b ++ u → length a ≤ length b → b ≡ a ++ drop (length a) b
+begins [] b t u e l = refl
+begins (n ∷ a) [] t u e l = absurd (omega arith)
+begins (n ∷ a) (m ∷ b) t u e l =
+    let same : n ≡ m = cc in
+    let rest : a ++ t ≡ b ++ u = cc in
+    ap₂ (λ (k : ℕ) (c : List ℕ). k ∷ c) (sym same) (begins a b t u rest (omega (arith, l)))
+
+-- bytes that are one record begin with no other
+first-only : (at : ℕ) (x y : Record) (w : List ℕ) → InRange x → InRange y → recordBytes y ≡ recordBytes x ++ w → x ≡ y
 unfolding ended
+first-only at x y w i j e =
+    by (readingFrom freshReader (at + length (recordBytes x)) w)
+    (sym (reads-back x i at w) ∙ ap (readingFrom freshReader at) (sym e ∙ sym (append-nil (recordBytes y))) ∙ reads-back y j at []
+    ∙ ap (also y) (reading-nil freshReader (at + length (recordBytes y))))
+  where
+    by : (g : Reading) → also x g ≡ records (y ∷ []) → x ≡ y
+    by (records xs) q = cc
+    by (bad why p) q = absurd (apart q)
+
+-- a record that stands there, taken at once
+module _ (s : List ℕ) (at : ℕ) (h : Bytes s) (l : at < length s) where
+  whole-to : (x : Record) (n : ℕ) → foundAt s at ≡ Whole x n → InRange x × (n ≡ length (recordBytes x)) × (drop at s ≡ recordBytes x ++ drop (at + n) s)
+  unfolding ended
+  whole-to x n e =
+      let r = whole-read s at l (foundAt s at) refl e in
+      let u = take n (drop at s) in
+      let y = alone-said at u x (bytes-take n (drop at s) (bytes-drop at s h))
+      (ap (readingFrom freshReader at) (sym (append-nil u)) ∙ r .alone [] ∙ ap (also x) (reading-nil freshReader (at + n))) in
+      let k : length u ≡ n = length-take-le n (drop at s) (simp length-drop (omega (arith, r .fits))) in (
+        y .0,
+        sym k ∙ ap length (y .1),
+        sym (take-append-drop n (drop at s)) ∙ ap (λ (t : List ℕ). u ++ t) (drop-drop n at s) ∙ ap (λ (t : List ℕ). t ++ drop (at + n) s) (y .1),
+      )
+
+  faulty-to : (why : Fault) → foundAt s at ≡ Bad why → Faulty why (drop at s)
+  faulty-to why e = first-said at (drop at s) why (bytes-drop at s h) (bad-says s at l (foundAt s at) refl e)
+
+  -- a record there, and a fault there at once
+  not-both : (x : Record) (t : List ℕ) (why : Fault) → InRange x → drop at s ≡ recordBytes x ++ t → Faulty why (drop at s) → ⊥
+  not-both x t why i e f =
+      let a = at + length (recordBytes x) in
+      let b = bytes-behind (recordBytes x) t (subst Bytes e (bytes-drop at s h)) in
+      no-earlier x a at t (readingFrom freshReader a t) (said (length t) t (le-refl (length t)) b a)
+      (sym (reads-back x i at t) ∙ ap (readingFrom freshReader at) (sym e) ∙ faulty-back f at) (omega (arith, length-record x))
+
+  -- two records there at once
+  one-only : (x y : Record) (t u : List ℕ) → InRange x → InRange y → drop at s ≡ recordBytes x ++ t → drop at s ≡ recordBytes y ++ u → x ≡ y
+  one-only x y t u i j e f =
+      by-cases (atMost (length (recordBytes x)) (length (recordBytes y)))
+      (λ l. first-only at x y _ i j (begins (recordBytes x) (recordBytes y) t u (sym e ∙ f) l))
+      (λ l. sym (first-only at y x _ j i (begins (recordBytes y) (recordBytes x) u t (sym f ∙ e) (omega arith))))
+
+  whole-from : (x : Record) (n : ℕ) → InRange x → n ≡ length (recordBytes x) → drop at s ≡ recordBytes x ++ drop (at + n) s
+      → (f : Found) → foundAt s at ≡ f → f ≡ Whole x n
+  whole-from x n i k e (Whole y m) q =
+      let r = whole-to y m q in
+      let same : y ≡ x = one-only y x _ _ (r .0) i (r .2) e in
+      let size : m ≡ n = r .1 ∙ ap (λ (z : Record). length (recordBytes z)) same ∙ sym k in
+      ap₂ Whole same size
+  whole-from x n i k e (Bad why) q = absurd (not-both x _ why i e (faulty-to why q))
+
+  faulty-from : (why : Fault) → Faulty why (drop at s) → (f : Found) → foundAt s at ≡ f → f ≡ Bad why
+  faulty-from why f (Whole y m) q = let r = whole-to y m q in absurd (not-both y _ why (r .0) (r .2) f)
+  faulty-from why f (Bad w) q =
+      let e : bad w at ≡ bad why at = sym (faulty-back (faulty-to w q) at) ∙ faulty-back f at in
+      let same : w ≡ why = cc in
+      ap Bad same
+
+pub taken-at-once : TakenAtOnce
 taken-at-once =
     record {
-      whole = λ s at h l x n e.
-          let r = whole-read s at l (foundAt s at) refl e in
-          let u = take n (drop at s) in
-          let y = alone-said at u x (bytes-take n (drop at s) (bytes-drop at s h))
-          (ap (readingFrom freshReader at) (sym (append-nil u)) ∙ r .alone [] ∙ ap (also x) (reading-nil freshReader (at + n))) in
-          let k : length u ≡ n = length-take-le n (drop at s) (simp length-drop (omega (arith, r .fits))) in (
-            y .0,
-            sym k ∙ ap length (y .1),
-            sym (take-append-drop n (drop at s)) ∙ ap (λ (t : List ℕ). u ++ t) (drop-drop n at s) ∙ ap (λ (t : List ℕ). t ++ drop (at + n) s) (y .1),
-          );
-      faulty = λ s at h l why e. first-said at (drop at s) why (bytes-drop at s h) (bad-says s at l (foundAt s at) refl e);
+      whole = λ s at h l x n. (whole-to s at h l x n, λ r. whole-from s at h l x n (r .0) (r .1) (r .2) (foundAt s at) refl);
+      faulty = λ s at h l why. (faulty-to s at h l why, λ f. faulty-from s at h l why f (foundAt s at) refl);
     }
 
 -- ---- both ways
@@ -176,9 +246,6 @@ not-long (kind k t h) e = omega (arith, ap faultNumber e)
 not-long (value k ns t h l b n) e = omega (arith, ap faultNumber e)
 not-long (number k ns t h l b n) e = omega (arith, ap faultNumber e)
 not-long (cut k ns t h l b n) e = omega (arith, ap faultNumber e)
-
-apart : {xs : List Record} {why : Fault} {at : ℕ} → bad why at ≡ records xs → ⊥
-apart e = let z : _≡_ {A = ℕ} 0 1 = cc in omega arith
 
 pub exactly-when : ExactlyWhen
 exactly-when =

@@ -38,11 +38,12 @@ abbrev pub ReadsBack : Type 0
 ReadsBack = (x : Record) → InRange x → (at : ℕ) (t : List ℕ)
     → readingFrom freshReader at (recordBytes x ++ t) ≡ also x (readingFrom freshReader (at + length (recordBytes x)) t)
 
--- what is found where a record is due, in a recording of bytes: a record in range, whose bytes stand there, n of them; or why none stands there
+-- what is found where a record is due, in a recording of bytes: a record exactly where its bytes stand there, and it is in range; why there is none exactly
+-- where that is so
 pub record TakenAtOnce : Type 0 where
-  pub whole : (s : List ℕ) (at : ℕ) → Bytes s → at < length s → (x : Record) (n : ℕ) → foundAt s at ≡ Whole x n
-      → InRange x × (n ≡ length (recordBytes x)) × (drop at s ≡ recordBytes x ++ drop (at + n) s)
-  pub faulty : (s : List ℕ) (at : ℕ) → Bytes s → at < length s → (why : Fault) → foundAt s at ≡ Bad why → Faulty why (drop at s)
+  pub whole : (s : List ℕ) (at : ℕ) → Bytes s → at < length s → (x : Record) (n : ℕ)
+      → (foundAt s at ≡ Whole x n) ↔ (InRange x × (n ≡ length (recordBytes x)) × (drop at s ≡ recordBytes x ++ drop (at + n) s))
+  pub faulty : (s : List ℕ) (at : ℕ) → Bytes s → at < length s → (why : Fault) → (foundAt s at ≡ Bad why) ↔ Faulty why (drop at s)
 
 -- a recording is good exactly where it is the bytes of records, and its records are those; 21, 22 and 23 exactly where the first record that
 -- is none shows that fault, with its offset; 24 exactly where it is over 65,536 bytes, at offset 0, whatever else it holds
