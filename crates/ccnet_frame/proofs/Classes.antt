@@ -9,7 +9,7 @@ use lib.ListN.{length, getD}
 use borrow.Author.Tests.{ne-eqb}
 use Rattle.numbers.specs.Rules.{Condition, same, both}
 use Rattle.numbers.proofs.Rules.{by-cases, holds-true, fails-false, cond-true, cond-false}
-use Rattle.ccnet_frame.specs.Class.{isState, isRejection, isFailure, isType, oneByte, twoBytes, classOf, classBytes, isListed}
+use Rattle.ccnet_frame.specs.Class.{isState, isRejection, isFailure, isType, oneByte, twoBytes, classOf, classBytes, isNamed}
 use Rattle.ccnet_frame.specs.Promises.{Classes}
 use Rattle.ccnet_frame.specs.declared.class.Class.{Class}
 use Rattle.ccnet_frame.specs.declared.class.Class.the-variants.{Ack, Nak, Illegal, State, Busy, Rejecting, Failing, Escrow, Stacked, Returned, Unknown}
@@ -41,7 +41,7 @@ class-none (a ∷ b ∷ c ∷ s) n m = refl
 no-state : (b x : ℕ) → isState b .holds → isState x .test ≡ false → b ≡ x → ⊥
 no-state b x h f e = isState x .tells .denied f (subst (λ (y : ℕ). isState y .holds) e h)
 
-back : (c : Class) → isListed c .holds → classOf (classBytes c) ≡ c
+back : (c : Class) → isNamed c .holds → classOf (classBytes c) ≡ c
 unfolding classOf oneByte twoBytes
 back Ack h = refl
 back Nak h = refl
@@ -65,7 +65,7 @@ back Unknown h = absurd h
 
 -- the class is listed, and its bytes are the body
 abbrev Told : List ℕ → Class → Type 0
-Told s c = isListed c .holds × (classBytes c ≡ s)
+Told s c = isNamed c .holds × (classBytes c ≡ s)
 
 abbrev Found : List ℕ → Class → Type 0
 Found s c = (c ≡ Unknown) ⊎ Told s c
@@ -102,7 +102,7 @@ classes =
       back = back;
       again = λ s n. ⊎-elim (λ e. absurd (n e)) (λ t. t) (found s);
       rest = λ s. (
-        λ e c h q. subst (λ (k : Class). isListed k .holds) (sym (back c h) ∙ ap classOf (sym q) ∙ e) h,
+        λ e c h q. subst (λ (k : Class). isNamed k .holds) (sym (back c h) ∙ ap classOf (sym q) ∙ e) h,
         λ f. ⊎-elim (λ e. e) (λ t. absurd (f (classOf s) (t .0) (sym (t .1)))) (found s),
       );
     }

@@ -1,5 +1,5 @@
 -- No contract of this crate leaves a choice: two outcomes that it allows for the same arguments coincide, in the result and in every
--- byte of a lent room. Said of the contracts themselves, since each is one equation. Assumes nothing.
+-- byte of a lent room. Said of the contracts themselves, since each is one equation, or two for `body`. Assumes nothing.
 use Prim.Native.Nat.{ℕ}
 use mathlib.Core.Path.{ap, ap₂}
 use mathlib.Core.List.{List}

@@ -67,15 +67,15 @@ classBytes (Returned b) = 0x82 ∷ b ∷ []
 classBytes Unknown = []
 
 -- a class other than unknown whose byte is one of those that 01 lists for it
-abbrev pub isListed : Class → Condition
-isListed Ack = always
-isListed Nak = always
-isListed Illegal = always
-isListed (State b) = isState b
-isListed (Busy b) = always
-isListed (Rejecting b) = isRejection b
-isListed (Failing b) = isFailure b
-isListed (Escrow b) = isType b
-isListed (Stacked b) = isType b
-isListed (Returned b) = isType b
-isListed Unknown = never
+abbrev pub isNamed : Class → Condition
+isNamed Ack = always
+isNamed Nak = always
+isNamed Illegal = always
+isNamed (State b) = isState b
+isNamed (Busy b) = always
+isNamed (Rejecting b) = isRejection b
+isNamed (Failing b) = isFailure b
+isNamed (Escrow b) = isType b
+isNamed (Stacked b) = isType b
+isNamed (Returned b) = isType b
+isNamed Unknown = never

@@ -9,7 +9,7 @@ use Rattle.numbers.specs.Put.{written, refused, laid}
 use Rattle.numbers.specs.Promises.{Bytes}
 use Rattle.numbers.specs.declared.Put.the-variants.{Bytes as Put}
 use Rattle.ccnet_frame.specs.Frame.{frame, frameRefusals, writeFrame, faults, judgeFrame, bodyOf}
-use Rattle.ccnet_frame.specs.Class.{classOf, classBytes, isListed}
+use Rattle.ccnet_frame.specs.Class.{classOf, classBytes, isNamed}
 use Rattle.ccnet_frame.specs.declared.frame.Fault.{Fault}
 use Rattle.ccnet_frame.specs.declared.frame.Judged.the-variants.{Good, Refused}
 use Rattle.ccnet_frame.specs.declared.class.Class.{Class}
@@ -38,6 +38,6 @@ pub record ExactlyWhen : Type 0 where
 
 -- every body falls in one class; a listed class is that of its bytes, and its bytes are the body; unknown is exactly the rest
 pub record Classes : Type 0 where
-  pub back : (c : Class) → isListed c .holds → classOf (classBytes c) ≡ c
-  pub again : (s : List ℕ) → (classOf s ≡ Unknown → ⊥) → isListed (classOf s) .holds × (classBytes (classOf s) ≡ s)
-  pub rest : (s : List ℕ) → (classOf s ≡ Unknown) ↔ ((c : Class) → isListed c .holds → s ≡ classBytes c → ⊥)
+  pub back : (c : Class) → isNamed c .holds → classOf (classBytes c) ≡ c
+  pub again : (s : List ℕ) → (classOf s ≡ Unknown → ⊥) → isNamed (classOf s) .holds × (classBytes (classOf s) ≡ s)
+  pub rest : (s : List ℕ) → (classOf s ≡ Unknown) ↔ ((c : Class) → isNamed c .holds → s ≡ classBytes c → ⊥)

@@ -1,35 +1,20 @@
 -- No sum of the account grows by more than 99 when a command closes, and only the notes asked grow when one opens. Assumes nothing.
 use Prim.Native.Nat.{ℕ, _+_, _-_, _≤_, _<_}
-use mathlib.Core.Path.{_≡_}
-use mathlib.Core.Bool.{Bool, true, false}
-use mathlib.Core.List.{List}
 use native.Mathlib.Nat.{le-refl}
 use native.Mathlib.Omega.{arith}
-use lib.ListN.{length}
-use Rattle.numbers.specs.Rules.{atMost}
-use Rattle.numbers.specs.Put.{over}
-use Rattle.numbers.proofs.Rules.{pick, certain}
-use Rattle.numbers.proofs.Writing.{done-laid}
 use Rattle.dispenser_frame.specs.Layout.{allInRange}
-use Rattle.dispenser_frame.specs.Table.{table, lineIn, line, asks}
-use Rattle.dispenser_frame.specs.Command.{countsFit, sendable}
-use Rattle.dispenser_frame.specs.Answer.{answerFits, answerFrame, answerRefusals, writeAnswer, readAnswer}
+use Rattle.dispenser_frame.specs.Table.{table, lineIn}
+use Rattle.dispenser_frame.specs.Answer.{answerFits}
 use Rattle.dispenser_frame.specs.declared.answer.Cassette.the-variants.{Upper, Lower}
 use Rattle.dispenser_frame.specs.declared.answer.Answer.{Answer}
 use Rattle.dispenser_frame.specs.declared.answer.Answer.the-variants.{Purged, PaidOne, PaidBoth, Tested, Status}
-use Rattle.dispenser_frame.specs.declared.answer.AnswerRead.the-variants.{Read}
-use Rattle.dispenser_frame.proofs.Trips.{answer-trips}
-use Rattle.dispenser.specs.Account.{plus, sumsOpened, sumsAnswered, sumsRefused, sumsUnknown, sumsRejected, accountOpened, accountAnswered, accountRefused, accountUnknown}
+use Rattle.dispenser.specs.Account.{sumsOpened, sumsAnswered, sumsRefused, sumsUnknown, sumsRejected, accountOpened, accountAnswered, accountRefused, accountUnknown}
 use Rattle.dispenser.specs.Calls.{Bounded}
-use Rattle.dispenser.specs.declared.account.Notes.{Notes}
 use Rattle.dispenser.specs.declared.account.Sums.{Sums}
 use Rattle.dispenser.specs.declared.account.Account.{Account}
 use Rattle.dispenser.specs.declared.session.Asked.{Asked}
-
--- a sum grows by no more than what is added
-plus-most : (a : Notes) (n : ℕ) → plus a n .0 ≤ a .0 + n
-unfolding plus
-plus-most a n = pick (λ (x : Notes). x .0 ≤ a .0 + n) (atMost (a .0 + n) 4_294_967_295) _ _ (λ h. omega arith) (λ h. omega arith)
+use Rattle.dispenser.proofs.Ranges.{Modest}
+use Rattle.dispenser.proofs.Shown.{plus-most}
 
 -- ---- one cassette
 
@@ -98,7 +83,7 @@ module _ {n c d : ℕ} {s : Sums} (b : Bounded n c s) where
         paid-most = omega arith;
         short-most = omega arith;
         over-most = omega arith;
-        refused-most = omega (arith, plus-most (s .refused) q);
+        refused-most = omega arith;
         unknown-most = omega (arith, plus-most (s .unknown) q);
         pending-most = omega arith;
         rejected-most = omega arith;
@@ -117,29 +102,6 @@ module _ {n c d : ℕ} {s : Sums} (b : Bounded n c s) where
         pending-most = omega arith;
         rejected-most = omega (arith, plus-most (s .rejected) r);
       }
-
--- ---- what is asked, and what is answered
-
-asks-most : (t : Bool) (n : ℕ) → asks t n .holds → n ≤ 60
-asks-most true n h = omega arith
-asks-most false n h = omega arith
-
--- a command asks no more than 60 notes of a cassette
-pub record Modest (a : Asked) : Type 0 where
-  pub upper : a .upper ≤ 60
-  pub lower : a .lower ≤ 60
-
-pub sent-modest : (a : Asked) → sendable (a .code) (a .upper) (a .lower) .holds → Modest a
-unfolding sendable countsFit
-sent-modest a h =
-    record { upper = asks-most (line (a .code) .upper) (a .upper) (h .1 .0); lower = asks-most (line (a .code) .lower) (a .lower) (h .1 .1) }
-
--- the fields of an answer that was read are in their ranges
-pub answer-fits : (x : List ℕ) (a : Answer) (b : Bool) → readAnswer x ≡ Read a b → answerFits a .holds
-unfolding writeAnswer answerRefusals
-answer-fits x a b e =
-    certain (answerFits a)
-    (done-laid (answerRefusals a x) (answerFrame a) x (length x) (over x x) (answer-trips .again x x a b e (le-refl _)) .none .1 .0)
 
 -- ---- the two cassettes
 
@@ -173,18 +135,18 @@ module _ {n c d : ℕ} {x : Account} (b : Books n c x) where
     books-answered (Purged e) f h = books-longer (le-refl n) (omega arith)
     books-answered (PaidOne Upper k e o s r) f h =
         record {
-          upper = sums-answered (b .upper) (a .upper) _ _ (q .upper) (omega (arith, f .0 .1, f .1 .0 .1)) (omega (arith, f .1 .1 .1 .1 .0 .1)) h;
+          upper = sums-answered (b .upper) (a .upper) e r (q .upper) (f .1 .0 .1) (f .1 .1 .1 .1 .0 .1) h;
           lower = bounded-longer (b .lower) (le-refl n) (omega arith);
         }
     books-answered (PaidOne Lower k e o s r) f h =
         record {
           upper = bounded-longer (b .upper) (le-refl n) (omega arith);
-          lower = sums-answered (b .lower) (a .lower) _ _ (q .lower) (omega (arith, f .0 .1, f .1 .0 .1)) (omega (arith, f .1 .1 .1 .1 .0 .1)) h;
+          lower = sums-answered (b .lower) (a .lower) e r (q .lower) (f .1 .0 .1) (f .1 .1 .1 .1 .0 .1) h;
         }
     books-answered (PaidBoth uc ux lc lx o us ls ur lr) f h =
         record {
-          upper = sums-answered (b .upper) (a .upper) _ _ (q .upper) (omega (arith, f .0 .1, f .1 .0 .1)) (omega (arith, f .1 .1 .1 .1 .1 .1 .1 .0 .1)) h;
-          lower = sums-answered (b .lower) (a .lower) _ _ (q .lower) (omega (arith, f .1 .1 .0 .1, f .1 .1 .1 .0 .1)) (omega (arith, f .1 .1 .1 .1 .1 .1 .1 .1 .0 .1)) h;
+          upper = sums-answered (b .upper) (a .upper) ux ur (q .upper) (f .1 .0 .1) (f .1 .1 .1 .1 .1 .1 .1 .0 .1) h;
+          lower = sums-answered (b .lower) (a .lower) lx lr (q .lower) (f .1 .1 .1 .0 .1) (f .1 .1 .1 .1 .1 .1 .1 .1 .0 .1) h;
         }
     books-answered (Tested Upper k o s r) f h =
         record { upper = sums-rejected (b .upper) r (f .1 .1 .1 .1 .1 .0 .1) h; lower = bounded-longer (b .lower) (le-refl n) (omega arith) }

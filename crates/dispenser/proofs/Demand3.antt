@@ -65,4 +65,4 @@ alike-at s h code upper lower r t =
 pub declines-by-history : DeclinesByHistory
 declines-by-history cs code upper lower r =
     let s = run freshSession cs in
-    given-alike (exactly-when .request s code upper lower r) (alike-at s (history cs) code upper lower r (tracks cs))
+    given-alike (exactly-when .request s code upper lower r) (alike-at s (history cs) code upper lower r (tracks cs)) refl

@@ -9,9 +9,9 @@ use lib.ListN.{set, take}
 use Rattle.dispenser_frame.specs.Answer.{answerCode, readAnswer}
 use Rattle.dispenser_frame.specs.declared.answer.AnswerRead.{AnswerRead}
 use Rattle.dispenser_frame.specs.declared.answer.AnswerRead.the-variants.{Read, Refused as NotRead}
-use Rattle.ledger.proofs.Declining.{Apart, given-exactly}
+use Rattle.ledger.proofs.Declining.{Apart, rising, given-exactly}
 use Rattle.dispenser.specs.Exchange.{badFrame, heard, passed}
-use Rattle.dispenser.specs.Session.{StepAfter, refusedStep, refusedOpening, stepAfter, byteAfter, openingAfter, acted, badStep, judgedStep, judgeStep, byteActed, bookedBy, requestBooked, byteStep, tickStep, requestStep, sessionRequest, sessionByte, sessionTick}
+use Rattle.dispenser.specs.Session.{StepAfter, refusedStep, refusedOpening, stepAfter, byteAfter, openingAfter, byteRefusals, tickRefusals, requestRefusals, acted, badStep, judgedStep, judgeStep, byteActed, bookedBy, requestBooked, byteStep, tickStep, requestStep, sessionRequest, sessionByte, sessionTick}
 use Rattle.dispenser.specs.Promises.{IsDone, ExactlyWhen}
 use Rattle.dispenser.specs.declared.exchange.Line.{Line}
 use Rattle.dispenser.specs.declared.exchange.Todo.{Todo}
@@ -55,6 +55,19 @@ byte-told NakAndLose l a store at b r = acted-told NakAndLose l a r
 byte-told Refuse l a store at b r = acted-told Refuse l a r
 byte-told Lose l a store at b r = acted-told Lose l a r
 
+-- the numbers that the rules give rise
+request-rises : (l : Line) (code upper lower : ℕ) (r : List ℕ) → rising (requestRefusals l code upper lower r) ≡ true
+unfolding requestRefusals
+request-rises l code upper lower r = refl
+
+byte-rises : (r : List ℕ) → rising (byteRefusals r) ≡ true
+unfolding byteRefusals
+byte-rises r = refl
+
+tick-rises : (ms : ℕ) (r : List ℕ) → rising (tickRefusals ms r) ≡ true
+unfolding tickRefusals
+tick-rises ms r = refl
+
 pub exactly-when : ExactlyWhen
 unfolding sessionRequest sessionByte sessionTick requestStep byteStep tickStep
 exactly-when =
@@ -62,15 +75,15 @@ exactly-when =
       request = λ s code upper lower r.
           given-exactly apart (λ why. openingAfter (refusedOpening (s .line) (s .asked) why) r) _
           (λ w. record { session = record { line = w .line; asked = w .asked; account = requestBooked (s .account) (w .asked) (w .reply); store = s .store }; reply = w .reply; room = w .room })
-          (λ why. refl) (λ why. refl) (_, (_, refl));
+          (request-rises (s .line) code upper lower r) (λ why. refl) (λ why. refl) (_, (_, refl));
       byte = λ s b r.
           let t = heard (s .line) (s .asked .want) b in
           given-exactly apart (λ why. byteAfter (refusedStep (s .line) why) (s .store) r) _
           (λ w. record { session = record { line = w .step .line; asked = s .asked; account = bookedBy (s .account) (s .asked) (w .step .reply); store = w .store }; reply = w .step .reply; room = w .step .room })
-          (λ why. refl) (λ why. refl) (byte-told (t .todo) (t .line) (s .asked) (s .store) (s .line .got) b r);
+          (byte-rises r) (λ why. refl) (λ why. refl) (byte-told (t .todo) (t .line) (s .asked) (s .store) (s .line .got) b r);
       tick = λ s ms r.
           let t = passed (s .line) ms in
           given-exactly apart (λ why. stepAfter (refusedStep (s .line) why) r) _
           (λ w. record { session = record { line = w .line; asked = s .asked; account = bookedBy (s .account) (s .asked) (w .reply); store = s .store }; reply = w .reply; room = w .room })
-          (λ why. refl) (λ why. refl) (acted-told (t .todo) (t .line) (s .asked) r);
+          (tick-rises ms r) (λ why. refl) (λ why. refl) (acted-told (t .todo) (t .line) (s .asked) r);
     }

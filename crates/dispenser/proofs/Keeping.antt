@@ -30,7 +30,8 @@ use Rattle.dispenser.specs.declared.exchange.Todo.the-variants.{Nothing,
 use Rattle.dispenser.specs.declared.exchange.Turn.{Turn}
 use Rattle.dispenser.specs.declared.session.Asked.{Asked}
 use Rattle.dispenser.specs.declared.session.Session.{Session}
-use Rattle.dispenser.proofs.Bounds.{Modest, sent-modest, answer-fits, Books, books-longer, books-opened, books-refused, books-unknown, books-answered, bounded-longer}
+use Rattle.dispenser.proofs.Ranges.{Modest, sent-modest, answer-fits}
+use Rattle.dispenser.proofs.Bounds.{Books, books-longer, books-opened, books-refused, books-unknown, books-answered, bounded-longer}
 
 -- ---- the line
 
@@ -124,8 +125,8 @@ module _ (l : Line) (a : Asked) (w : Live l a) where
   first-turns b =
       pick (Turns l a) (same b 0x06) _ _
       (λ h. starts answerWait (l .naks) (w .is .naks))
-      (λ n. pick (Turns l a) (same b 0x15) _ _
-      (λ h. pick (Turns l a) (under (l .handed) handOvers) _ _ (λ g. hands (l .handed + 1) (omega arith) (omega arith)) (λ g. closes _))
+      (λ n. pick (Turns l a) (same b _) _ _
+      (λ h. pick (Turns l a) (under (l .handed) handOvers) _ _ (λ g. hands _ (omega (arith, w .is .least)) (omega arith)) (λ g. closes _))
       (λ m. closes _))
 
   bad-turns : Turns l a (badFrame l)

@@ -1,8 +1,9 @@
 pub mod Deeds
 pub mod Exact
+pub mod Ranges
+pub mod Shown
 pub mod Bounds
 pub mod Keeping
-pub mod Shown
 pub mod Tracks
 pub mod Demand3
 pub mod Cited

@@ -6,7 +6,8 @@ use mathlib.Core.List.{List, []}
 use mathlib.Core.Logic.{⊎-elim}
 use native.Mathlib.Omega.{arith}
 use borrow.Author.Tests.{le-leb}
-use Rattle.numbers.proofs.Rules.{first-judged, none-judged, first-or-none}
+use Rattle.numbers.specs.Rules.{atMost}
+use Rattle.numbers.proofs.Rules.{pick, first-judged, none-judged, first-or-none}
 use Rattle.ledger.specs.Account.{Totals, waiting, answered-by, turned-down, in-doubt, with-share}
 use Rattle.dispenser_frame.specs.Layout.{allInRange, allValues}
 use Rattle.dispenser_frame.specs.Table.{table, lineIn, line, asks, answerFields, row, none, purged}
@@ -26,7 +27,7 @@ use Rattle.dispenser.specs.declared.account.Notes.{Notes}
 use Rattle.dispenser.specs.declared.account.Sums.{Sums}
 use Rattle.dispenser.specs.declared.account.Account.{Account}
 use Rattle.dispenser.specs.declared.session.Asked.{Asked}
-use Rattle.dispenser.proofs.Bounds.{sent-modest, answer-fits}
+use Rattle.dispenser.proofs.Ranges.{sent-modest, answer-fits}
 
 -- what the command asks, as the history has it
 abbrev pub request-of : Asked → Request
@@ -36,6 +37,11 @@ request-of a = record { code = a .code; upper = a .upper; lower = a .lower }
 plus-plain : (a : Notes) (n : ℕ) → a .0 + n ≤ 4_294_967_295 → plus a n .0 ≡ a .0 + n
 unfolding plus
 plus-plain a n h = rw (le-leb _ _ h)
+
+-- any sum grows by no more than what is added (`Bounds` rests on it, and so comes after what the history gives)
+pub plus-most : (a : Notes) (n : ℕ) → plus a n .0 ≤ a .0 + n
+unfolding plus
+plus-most a n = pick (λ (x : Notes). x .0 ≤ a .0 + n) (atMost (a .0 + n) 4_294_967_295) _ _ (λ h. omega arith) (λ h. omega arith)
 
 -- the sums that the session keeps are these, one by one
 record Shows (s : Sums) (t : Totals) : Type 0 where
@@ -81,6 +87,11 @@ Roomy s = Bounded 1_000_000 1_000_000 s
 -- ---- one cassette of one command
 
 module _ (s : Sums) (t : Totals) (q : Request) (c : Cassette) (roomy : Roomy s) where
+  -- a request that is accepted is open
+  opened-pending : t .pending ≡ 0 → sumsOpened s (wanted q c) .pending .0 ≡ with-share model2000T t waiting q c .pending
+  unfolding sumsOpened with-share
+  opened-pending z = omega arith
+
   shows-opened : Shows s t → t .pending ≡ 0 → wanted q c ≤ 60 → Shows (sumsOpened s (wanted q c)) (with-share model2000T t waiting q c)
   unfolding sumsOpened with-share
   shows-opened b z m =
@@ -91,7 +102,7 @@ module _ (s : Sums) (t : Totals) (q : Request) (c : Cassette) (roomy : Roomy s) 
         over = b .over;
         refused = b .refused;
         unknown = b .unknown;
-        pending = omega arith;
+        pending = opened-pending z;
         rejected = b .rejected;
       }
 

@@ -226,14 +226,14 @@ module _ (s : Session) (h : History Request Ending) (k : Sound s) (t : Tracks s 
       (subst (λ (p : Phase). At rules (stage p) (view (moved s m (s .store))) (done (hears b) [] goes-on ∷ h)) (sym e)
       (open-still rules tt none-frame (view (moved s m (s .store))) refl refl (at s h k t e)))
 
-  -- the first byte since a hand-over
+  -- the first byte since a hand-over; at 15h the frame is handed over again, and that is counted
   again-heard : (x : OpenIn rules (view s) h) → since h ≡ [] → Open (s .line) (s .asked) → b ≡ 0x15 → s .line .handed < handOvers
-      → Heard (turn (handedAgain (s .line) (s .line .handed + 1)) HandOver)
-  again-heard x fresh op z few =
-      let w = view (moved s (handedAgain (s .line) (s .line .handed + 1)) (s .store)) in
+      → (n : ℕ) → n ≡ s .line .handed + 1 → Heard (turn (handedAgain (s .line) n) HandOver)
+  again-heard x fresh op z few n more =
+      let w = view (moved s (handedAgain (s .line) n) (s .store)) in
       subst (λ (put : List ℕ). Follows rules w (done (hears b) put goes-on ∷ h)) (sym (handed-put (s .asked) r (op .sent) long))
       (subst (λ (b : ℕ). Follows rules w (done (hears b) (layout (request-of (s .asked))) goes-on ∷ h)) (sym z)
-      (again-follows rules (view s) h t x w refl refl refl (omega arith) (λ c. refl) refl fresh (layout-frame (s .asked) (op .sent))))
+      (again-follows rules (view s) h t x w refl refl more (omega arith) (λ c. refl) refl fresh (layout-frame (s .asked) (op .sent))))
 
   first-heard : s .line .phase ≡ First → Heard (firstByte (s .line) b)
   unfolding firstByte
@@ -244,9 +244,9 @@ module _ (s : Session) (h : History Request Ending) (k : Sound s) (t : Tracks s 
       (λ g.
       let m = starting (s .line) answerWait (s .line .naks) in
       quiet-good s h k t (hears b) tt m (s .store) refl (open-still rules tt none-frame (view (moved s m (s .store))) refl refl x))
-      (λ n. pick Heard (same b 0x15) _ _
+      (λ n. pick Heard (same b _) _ _
       (λ g. pick Heard (under (s .line .handed) handOvers) _ _
-      (λ y. again-heard x (at s h k t e .1) op g y)
+      (λ y. again-heard x (at s h k t e .1) op (omega (arith, g)) y _ (omega arith))
       (λ y. refuse-good s h k t (hears b) tt x op r (s .store)))
       (λ m. lose-good s h k t (hears b) tt x op r (s .store)))
 

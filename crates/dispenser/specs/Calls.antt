@@ -40,7 +40,8 @@ pub record Open (l : Line) (a : Asked) : Type 0 where
   pub naks : l .naks < nakLimit
   pub one : 1 ≤ l .accepted
 
--- where the line stands: before an answer no byte is gathered; inside one, one or more and fewer than the answer has
+-- where the line stands: from the hand-over to the closing a command is open; while an answer is waited for none of its bytes is gathered;
+-- inside one, one or more and fewer than the answer has
 abbrev pub Stands : Phase → Line → Asked → Type 0
 Stands Idle l a = Unit {0}
 Stands First l a = Open l a
@@ -79,4 +80,4 @@ AlwaysSound = (cs : List Call) → Sound (run freshSession cs)
 
 -- so no sum is ever cut: each is far from the end of u32, with room for one more answer
 abbrev pub NeverCut : Type 0
-NeverCut = (cs : List Call) → Bounded 1_000_000 1_000_000 (run freshSession cs .account .upper) × Bounded 1_000_000 1_000_000 (run freshSession cs .account .lower)
+NeverCut = (cs : List Call) → Bounded commandLimit commandLimit (run freshSession cs .account .upper) × Bounded commandLimit commandLimit (run freshSession cs .account .lower)

@@ -12,7 +12,7 @@ use Rattle.dispenser_frame.specs.Command.{sendable, writeCommand}
 use Rattle.dispenser_frame.specs.Answer.{answerCode, readAnswer}
 use Rattle.dispenser_frame.specs.declared.answer.AnswerRead.{AnswerRead}
 use Rattle.dispenser_frame.specs.declared.answer.AnswerRead.the-variants.{Read, Refused as NotRead}
-use Rattle.dispenser.specs.Limits.{quiet, leastRoom, commandLimit}
+use Rattle.dispenser.specs.Limits.{quiet, leastRoom, commandLimit, longestTick}
 use Rattle.dispenser.specs.Exchange.{freshLine, opened, closed, isOpen, heard, badFrame, passed}
 use Rattle.dispenser.specs.Account.{freshAccount, accountOpened, accountAnswered, accountRefused, accountUnknown}
 use Rattle.dispenser.specs.declared.account.Account.{Account}
@@ -151,7 +151,7 @@ byteStep l a store b r =
 
 -- "ticks 1 and 6"
 unfoldable pub tickRefusals : ℕ → List ℕ → List (Rule Declined)
-tickRefusals ms r = under (length r) leastRoom gives Room ∷ isnt (within 1 1_000 ms) gives Tick ∷ []
+tickRefusals ms r = under (length r) leastRoom gives Room ∷ isnt (within 1 longestTick ms) gives Tick ∷ []
 
 unfoldable pub tickStep : Line → Asked → ℕ → List ℕ → StepAfter
 tickStep l a ms r =

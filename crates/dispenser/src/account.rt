@@ -40,7 +40,7 @@ fn excess(a: u32, b: u32) -> u32
 
 impl Notes {
     // So many notes more. A sum past the end of u32 would stay where it is: no session from a fresh one comes near, since it accepts
-    // no more than 1,000,000 commands.
+    // no more than 1,000,000 commands (`NeverCut` in specs/Calls.antt).
     fn plus(self, n: u32) -> Notes
         ensures { λ r. ⌜ r ≡ plus self n ⌝ }
     {

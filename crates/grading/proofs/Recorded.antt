@@ -16,6 +16,7 @@ use Rattle.validator.specs.Calls.{run as ranToo}
 use Rattle.validator.specs.declared.session.Session.{Session as SessionToo}
 use Rattle.validator.proofs.Agreeing.{kept-by-history}
 use Rattle.recording.specs.Record.{AllInRange}
+use Rattle.recording.proofs.Exact.{exactly-when}
 use Rattle.recording.specs.Reading.{records, readRecording}
 use Rattle.recording.specs.declared.Record.{Record}
 use Rattle.recording.specs.declared.Record.the-variants.{Request, DispenserByte, Tick, ValidatorByte, Command}
@@ -93,15 +94,18 @@ pub session-too : (xs : List Record) (i : AllInRange xs) → run freshDesk xs .v
 session-too xs i = validator-ran freshDesk xs i ∙ ap (λ (s : SessionToo). ranToo s (callsToo freshDesk xs i)) (fresh-parts .1)
 
 pub as-recorded : AsRecorded
-as-recorded s xs e i =
-    let g = good-replay s xs e in
-    record {
-      account = λ c.
-          ap (λ (f : Findings). plain (cassette (f .account) c)) g
-          ∙ ap (λ (w : Session). plain (cassette (w .account) c)) (session-ran xs)
-          ∙ demand3 .account (calls freshDesk xs) c;
-      balance = demand3 .balance (calls freshDesk xs);
-      bills-told = λ y l. rw (g, session-too xs i) (kept-by-history .bills (callsToo freshDesk xs i) y l);
-      declined = ap (λ (f : Findings). f .declined) g ∙ declined-ran freshDesk xs ∙ omega (arith, fresh-counts .0);
-      all = ap (λ (f : Findings). f .records) g ∙ records-ran freshDesk xs ∙ omega (arith, fresh-counts .1);
-    }
+as-recorded s xs h e =
+    let i = exactly-when .good s xs h .0 e .1 in
+    let g = good-replay s xs e in (
+      i,
+      record {
+        account = λ c.
+            ap (λ (f : Findings). plain (cassette (f .account) c)) g
+            ∙ ap (λ (w : Session). plain (cassette (w .account) c)) (session-ran xs)
+            ∙ demand3 .account (calls freshDesk xs) c;
+        balance = demand3 .balance (calls freshDesk xs);
+        bills-told = λ y l. rw (g, session-too xs i) (kept-by-history .bills (callsToo freshDesk xs i) y l);
+        declined = ap (λ (f : Findings). f .declined) g ∙ declined-ran freshDesk xs ∙ omega (arith, fresh-counts .0);
+        all = ap (λ (f : Findings). f .records) g ∙ records-ran freshDesk xs ∙ omega (arith, fresh-counts .1);
+      },
+    )

@@ -6,6 +6,7 @@ use mathlib.Core.Bool.{Bool, cond, _||_}
 use mathlib.Core.List.{List, [], _∷_, _++_}
 use native.Mathlib.Omega.{arith}
 use lib.ListN.{length, getD}
+use Rattle.numbers.specs.Promises.{Bytes}
 use Rattle.ledger.specs.Account.{Balanced, sums}
 use Rattle.dispenser_frame.specs.declared.answer.Cassette.{Cassette}
 use Rattle.dispenser.specs.Session.{sessionRequest, sessionByte, sessionTick}
@@ -76,5 +77,6 @@ pub record Recorded (s : List ℕ) (xs : List Record) (i : AllInRange xs) : Type
   pub declined : replayOf s .declined ≡ refusals freshDesk xs
   pub all : replayOf s .records ≡ length xs
 
+-- of every good recording; its records are in range, so that what they make are calls
 abbrev pub AsRecorded : Type 0
-AsRecorded = (s : List ℕ) (xs : List Record) → readRecording s ≡ records xs → (i : AllInRange xs) → Recorded s xs i
+AsRecorded = (s : List ℕ) (xs : List Record) → Bytes s → readRecording s ≡ records xs → (i : AllInRange xs) × Recorded s xs i

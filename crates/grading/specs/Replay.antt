@@ -12,6 +12,8 @@ use Rattle.dispenser.specs.declared.session.Asked.{Asked}
 use Rattle.dispenser.specs.declared.session.Reply.{Reply}
 use Rattle.dispenser.specs.declared.session.Reply.the-variants.{Refused, Done}
 use Rattle.dispenser.specs.declared.session.Session.{Session}
+use Rattle.dispenser.specs.Limits.{leastRoom}
+use Rattle.validator.specs.Limits.{leastRoom as leastToo}
 use Rattle.validator.specs.Bills.{noBills}
 use Rattle.validator.specs.Session.{After as AfterToo, freshSession as freshToo, sessionRequest as requestToo, sessionByte as byteToo, sessionTick as tickToo}
 use Rattle.validator.specs.declared.bills.Bills.{Bills}
@@ -38,10 +40,10 @@ pub record Desk : Type 0 where
   pub declined : ℕ
   pub records : ℕ
 
--- both fresh, with rooms of 16 and of 255 bytes
+-- both fresh, each with the least room that it can send into
 unfoldable pub freshDesk : Desk
 freshDesk =
-    record { dispenser = freshSession; validator = freshToo; room = replicate 16 0; wide = replicate 255 0; declined = 0; records = 0 }
+    record { dispenser = freshSession; validator = freshToo; room = replicate leastRoom 0; wide = replicate leastToo 0; declined = 0; records = 0 }
 
 -- a session refused
 abbrev pub declines : Reply → Bool

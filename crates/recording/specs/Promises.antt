@@ -1,5 +1,5 @@
 -- What is promised of recordings: each record read is what its bytes say, a record may be taken at once, and each of 21 to 24 is given exactly
--- when 01 says. Proved in proofs/Exact.antt.
+-- when 01 says. Proved in proofs/Back.antt and proofs/Exact.antt.
 use Prim.Native.Nat.{ℕ, _+_, _≤_, _<_}
 use mathlib.Core.Path.{_≡_}
 use mathlib.Core.List.{List, _∷_, _++_}

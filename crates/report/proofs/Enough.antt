@@ -171,12 +171,13 @@ good-enough : (s : List ℕ) (xs : List Record) → Bytes s → readRecording s 
 unfolding reportText
 good-enough s xs h e =
     let w = exactly-when .good s xs h .0 e in
-    let r = as-recorded s xs e (w .1) in
+    let p = as-recorded s xs h e in
+    let r = p .1 in
     let cut = never-cut (calls freshDesk xs) in
     let n : length xs ≤ 65_536 = omega (arith, w .0, laid-many xs, ap length (w .2)) in
     let c = session-ran xs in
     let b : (k : ℕ) → k < 24 → getD (run freshDesk xs .validator .bills) k (bills 0) .0 < end32
-    = λ k l. omega (arith, sym (ap (λ (f : Findings). getD (f .bills) k (bills 0) .0) (good-replay s xs e)) ∙ r .bills-told k l, kept-by-history .few (callsToo freshDesk xs (w .1)) k l) in
+    = λ k l. omega (arith, sym (ap (λ (f : Findings). getD (f .bills) k (bills 0) .0) (good-replay s xs e)) ∙ r .bills-told k l, kept-by-history .few (callsToo freshDesk xs (p .0)) k l) in
     rw (good-replay s xs e)
     (good-most (run freshDesk xs .dispenser .account) (run freshDesk xs .validator .bills) (run freshDesk xs .declined) (run freshDesk xs .records)
     (subst (λ (y : Session). Few (y .account .upper)) (sym c) (bounded-few (ran freshSession (calls freshDesk xs) .account .upper) (cut .0)))

@@ -1,25 +1,25 @@
 -- After any calls at all the session agrees with the history: its bills, its store, and the numbers 3, 4 and 5. Assumes nothing.
 use Prim.Native.Nat.{ℕ, _+_, _-_, _≤_, _<_}
 use mathlib.Core.Path.{_≡_, refl, sym, ap, ap₂, _∙_, subst}
-use mathlib.Core.Bool.{true, false, cond}
-use mathlib.Core.List.{List, [], _∷_, _++_}
+use mathlib.Core.Bool.{Bool, true, false, cond, true≢false}
+use mathlib.Core.List.{List, [], _∷_, _++_, append-nil}
 use native.Mathlib.Omega.{arith}
 use lib.Dec.{eqb, lit≤}
 use lib.ListN.{length, getD, set, take, replicate, length-append, length-replicate, getD-replicate, List·getD-append}
 use lib.Seq.{take-at, getD-at}
 use borrow.Author.Tests.{lt-ltb}
-use Rattle.numbers.specs.Rules.{under, same}
+use Rattle.numbers.specs.Rules.{under, within, same}
 use Rattle.numbers.specs.Promises.{Bytes}
 use Rattle.numbers.specs.Put.{over}
 use Rattle.numbers.proofs.Rules.{holds-true, fails-false, by-cases, cond-true, cond-false, pick, either-way, Alike}
 use Rattle.numbers.proofs.Writing.{take-over}
 use Rattle.ccnet_frame.specs.Frame.{closed as with-check, frame, judgeFrame, bodyOf}
-use Rattle.ccnet_frame.specs.Class.{classOf, classBytes}
+use Rattle.ccnet_frame.specs.Class.{classOf, classBytes, isNamed}
 use Rattle.ccnet_frame.specs.declared.frame.Judged.{Judged}
 use Rattle.ccnet_frame.specs.declared.frame.Judged.the-variants.{Good as Passed, Refused as Failed}
 use Rattle.ccnet_frame.specs.declared.class.Class.{Class}
 use Rattle.ccnet_frame.specs.declared.class.Class.the-variants.{Ack, Nak, Illegal, State, Busy, Rejecting, Failing, Escrow, Stacked, Returned, Unknown}
-use Rattle.ccnet_frame.proofs.Frames.{frame-length, good-frame}
+use Rattle.ccnet_frame.proofs.Frames.{frame-length, frame-judged, good-long, good-most, good-size, good-frame}
 use Rattle.ccnet_frame.proofs.Classes.{classes}
 use Rattle.ledger.specs.Events.{Deed, asks, hears, waits, goes-on, closes, Event, declined, done, isFrame, since}
 use Rattle.ledger.specs.Line.{isOpen, quietTime, accepted}
@@ -28,7 +28,7 @@ use Rattle.validator.specs.Limits.{quiet, frameWait, storeSize, commandL
 use Rattle.validator.specs.Line.{isOpen as openIn, opened, closed, remembers, inside, waits as still, startByte, addressByte, lengthByte, furtherByte, gathered, heardIn, heard, expiredIn, expired, passed}
 use Rattle.validator.specs.Bills.{bills, bookedBy, poll, remembered}
 use Rattle.validator.specs.Session.{LentAfter, StepAfter, stepAfter, refusedStep, lentAfter, afterStep, zeros, damagedStep, answeredStep, classStep, foundIn, found, judgedStep, judgeStep, acted, byteActed, byteRefusals, tickRefusals, requestRefusals, byteStep, tickStep, requestStep, freshSession, sessionRequest, sessionByte, sessionTick}
-use Rattle.validator.specs.History.{Request, Ending, acknowledged, refused, illegal, answered, damaged, silent, Past, lastCode, fromStart, between, pollBody, reported, counted, gathered as so-far, told, seen, historyFrom, history, Truly, KeptByHistory, historyRefusals, DeclinesByHistory}
+use Rattle.validator.specs.History.{Request, Ending, acknowledged, refused, illegal, answered, damaged, silent, Past, lastCode, fromStart, between, pollBody, reported, counted, gathered as so-far, told, seen, historyFrom, history, Carries, Other, Says, Truly, KeptByHistory, historyRefusals, DeclinesByHistory}
 use Rattle.validator.specs.Calls.{Call, request, byte, tick, called, run}
 use Rattle.validator.specs.declared.bills.Bills.{Bills}
 use Rattle.validator.specs.declared.line.Phase.{Phase}
@@ -68,6 +68,7 @@ record Gathering (l : Line) (store : List ℕ) (h : Past) : Type 0 where
   most : l .want ≤ storeSize
   untold : l .got ≤ 2 → l .want ≡ storeSize
   named : 2 ≤ l .got → getD (fromStart (since h)) 1 0 ≡ 0x03
+  sized : 3 ≤ l .got → getD (fromStart (since h)) 2 0 ≡ l .want
   bytes : Bytes (fromStart (since h))
   bound : Fewer h
 
@@ -125,10 +126,63 @@ module _ (l : Line) (bs : List Bills) (h : Past) (base : Base l bs h) (fewer : F
         truly = truly;
       }
 
--- the address stands behind 02h
+-- the address stands behind 02h, and then the length
 second : (a : ℕ) (body : List ℕ) → getD (frame a body) 1 0 ≡ a
 unfolding frame with-check
 second a body = refl
+
+third : (a : ℕ) (body : List ℕ) → getD (frame a body) 2 0 ≡ 5 + length body
+unfolding frame with-check
+third a body = refl
+
+-- ---- bytes that begin no good frame from address 03h
+
+module _ (f : List ℕ) where
+  -- the byte at a place is that of any frame which they begin
+  begun : (body rest : List ℕ) → f ++ rest ≡ frame 0x03 body → (i : ℕ) → i < length f → getD f i 0 ≡ getD (frame 0x03 body) i 0
+  begun body rest is i h = sym (List·getD-append f rest 0 i h) ∙ ap (λ (x : List ℕ). getD x i 0) is
+
+  wrong-address : 2 ≤ length f → (getD f 1 0 ≡ 0x03 → ⊥) → Says damaged f
+  wrong-address long n body rest is = n (begun body rest (is .0) 1 (omega arith) ∙ second 0x03 body)
+
+  wrong-length : 3 ≤ length f → getD f 2 0 < 6 → Says damaged f
+  wrong-length long short body rest is =
+      omega (arith, begun body rest (is .0) 2 (omega arith), third 0x03 body, is .1 .0)
+
+  -- a whole one that is bad
+  wrong-frame : 3 ≤ length f → getD f 2 0 ≡ length f → (judgeFrame f ≡ Passed 0x03 → ⊥) → Says damaged f
+  wrong-frame long sized bad body [] is =
+      bad (ap judgeFrame (sym (append-nil f) ∙ is .0) ∙ frame-judged 0x03 body (lit≤ tt, lit≤ tt) (is .1 .0))
+  wrong-frame long sized bad body (b ∷ rest) is =
+      omega (
+        arith,
+        sized,
+        begun body (b ∷ rest) (is .0) 2 (omega arith),
+        third 0x03 body,
+        frame-length 0x03 body,
+        ap length (is .0),
+        length-append f (b ∷ rest),
+      )
+
+-- ---- bodies that get a reply
+
+abbrev replied : Class → Bool
+replied Ack = false
+replied Nak = false
+replied Illegal = false
+replied (State b) = true
+replied (Busy b) = true
+replied (Rejecting b) = true
+replied (Failing b) = true
+replied (Escrow y) = true
+replied (Stacked y) = true
+replied (Returned y) = true
+replied Unknown = true
+
+-- they are not the bytes of a class that gets none
+replied-no : (body : List ℕ) → replied (classOf body) ≡ true → (c : Class) → isNamed c .holds → replied c ≡ false → body ≡ classBytes c → ⊥
+replied-no body gets c listed none is =
+    true≢false (sym gets ∙ ap (λ (x : List ℕ). replied (classOf x)) is ∙ ap replied (classes .back c listed) ∙ none)
 
 -- ---- what is left by a step
 
@@ -142,25 +196,25 @@ module _ (s : Session) (h : Past) (k : Agrees s h) where
 
   -- ---- closings
 
-  module _ (fewer : Fewer h) (r : List ℕ) where
-    heard-damaged : (b : ℕ) → Next s h (hears b) (damagedStep (closed l) r)
+  module _ (fewer : Fewer h) (live : isOpen h ≡ true) (r : List ℕ) where
+    heard-damaged : (b : ℕ) → Says damaged (fromStart (since h ++ (b ∷ []))) → Next s h (hears b) (damagedStep (closed l) r)
     unfolding damagedStep bookedBy Truly
-    heard-damaged b = closes-agrees l (s .bills) h (k .base) fewer _ (heard-ends h b _ damaged) refl (tt, k .truly)
+    heard-damaged b says = closes-agrees l (s .bills) h (k .base) fewer _ (heard-ends h b _ damaged) refl ((live, says), k .truly)
 
-    waited-damaged : (ms : ℕ) → Next s h (waits ms) (damagedStep (closed l) r)
+    waited-damaged : (ms : ℕ) → (fromStart (since h) ≡ [] → ⊥) → Next s h (waits ms) (damagedStep (closed l) r)
     unfolding damagedStep bookedBy Truly
-    waited-damaged ms = closes-agrees l (s .bills) h (k .base) fewer _ (waited-ends h ms _ damaged) refl (k .truly)
+    waited-damaged ms some = closes-agrees l (s .bills) h (k .base) fewer _ (waited-ends h ms _ damaged) refl ((live, some), k .truly)
 
-    waited-silent : (ms : ℕ) → Next s h (waits ms) (acted Silence (closed l) (s .store) r)
+    waited-silent : (ms : ℕ) → fromStart (since h) ≡ [] → Next s h (waits ms) (acted Silence (closed l) (s .store) r)
     unfolding bookedBy Truly
-    waited-silent ms = closes-agrees l (s .bills) h (k .base) fewer _ (waited-ends h ms _ silent) refl (k .truly)
+    waited-silent ms none = closes-agrees l (s .bills) h (k .base) fewer _ (waited-ends h ms _ silent) refl ((live, none), k .truly)
 
     -- an answer that ends with b: a frame, and its body is what stands between
     module _ (b : ℕ) (body : List ℕ) (is : body ≡ between (fromStart (since h ++ (b ∷ []))))
-        (good : fromStart (since h ++ (b ∷ [])) ≡ frame 0x03 body) where
-      heard-answered : Next s h (hears b) (answeredStep (closed l) (classOf body) r)
+        (good : Carries (fromStart (since h ++ (b ∷ []))) body) where
+      heard-answered : replied (classOf body) ≡ true → Next s h (hears b) (answeredStep (closed l) (classOf body) r)
       unfolding answeredStep Truly
-      heard-answered =
+      heard-answered gets =
           let e = told (hears b) (answeredStep (closed l) (classOf body) r .step .reply) (answeredStep (closed l) (classOf body) r .room) in
           let ends = heard-ends h b _ answered in
           let m = remembers (closed l) (remembered (l .code) (l .last) (classOf body)) in
@@ -170,44 +224,58 @@ module _ (s : Session) (h : Past) (k : Agrees s h) where
                 (ap₂ (λ (c : ℕ) (x : List ℕ). cond (eqb c poll) x []) (sym (k .base .code-is)) (sym is))
                 m refl refl refl (ends .as-many) (ends .as-coded);
             stands = rests l (s .bills) h (k .base) fewer e ends m refl;
-            truly = (good ∙ ap (frame 0x03) is, k .truly);
+            truly = (
+              (
+                live,
+                subst (λ (x : List ℕ). Carries (fromStart (since h ++ (b ∷ []))) x × Other x) is
+                    (good, (replied-no body gets Ack tt refl, (replied-no body gets Nak tt refl, replied-no body gets Illegal tt refl))),
+              ),
+              k .truly,
+            );
           }
 
       -- a body of a class other than unknown is the bytes of that class
-      heard-says : (c : Class) → c ≡ classOf body → (c ≡ Unknown → ⊥) → fromStart (since h ++ (b ∷ [])) ≡ frame 0x03 (classBytes c)
+      heard-says : (c : Class) → c ≡ classOf body → (c ≡ Unknown → ⊥) → Carries (fromStart (since h ++ (b ∷ []))) (classBytes c)
       heard-says c e n =
-          good ∙ ap (frame 0x03) (sym (classes .again body (λ u. n (e ∙ u)) .1) ∙ ap classBytes (sym e))
+          subst (Carries (fromStart (since h ++ (b ∷ [])))) (sym (classes .again body (λ u. n (e ∙ u)) .1) ∙ ap classBytes (sym e)) good
 
       heard-class : (c : Class) → c ≡ classOf body → Next s h (hears b) (classStep c (closed l) r)
       unfolding bookedBy Truly
       heard-class Ack e =
-          closes-agrees l (s .bills) h (k .base) fewer _ (heard-ends h b _ acknowledged) refl (heard-says Ack e (λ u. let z : _≡_ {A = ℕ} 0 1 = cc in omega arith), k .truly)
+          closes-agrees l (s .bills) h (k .base) fewer _ (heard-ends h b _ acknowledged) refl ((live, heard-says Ack e (λ u. let z : _≡_ {A = ℕ} 0 1 = cc in omega arith)), k .truly)
       heard-class Nak e =
-          closes-agrees l (s .bills) h (k .base) fewer _ (heard-ends h b _ refused) refl (heard-says Nak e (λ u. let z : _≡_ {A = ℕ} 0 1 = cc in omega arith), k .truly)
+          closes-agrees l (s .bills) h (k .base) fewer _ (heard-ends h b _ refused) refl ((live, heard-says Nak e (λ u. let z : _≡_ {A = ℕ} 0 1 = cc in omega arith)), k .truly)
       heard-class Illegal e =
-          closes-agrees l (s .bills) h (k .base) fewer _ (heard-ends h b _ illegal) refl (heard-says Illegal e (λ u. let z : _≡_ {A = ℕ} 0 1 = cc in omega arith), k .truly)
-      heard-class (State x) e = subst (λ (c : Class). Next s h (hears b) (answeredStep (closed l) c r)) (sym e) heard-answered
-      heard-class (Busy x) e = subst (λ (c : Class). Next s h (hears b) (answeredStep (closed l) c r)) (sym e) heard-answered
-      heard-class (Rejecting x) e = subst (λ (c : Class). Next s h (hears b) (answeredStep (closed l) c r)) (sym e) heard-answered
-      heard-class (Failing x) e = subst (λ (c : Class). Next s h (hears b) (answeredStep (closed l) c r)) (sym e) heard-answered
-      heard-class (Escrow x) e = subst (λ (c : Class). Next s h (hears b) (answeredStep (closed l) c r)) (sym e) heard-answered
-      heard-class (Stacked x) e = subst (λ (c : Class). Next s h (hears b) (answeredStep (closed l) c r)) (sym e) heard-answered
-      heard-class (Returned x) e = subst (λ (c : Class). Next s h (hears b) (answeredStep (closed l) c r)) (sym e) heard-answered
-      heard-class Unknown e = subst (λ (c : Class). Next s h (hears b) (answeredStep (closed l) c r)) (sym e) heard-answered
+          closes-agrees l (s .bills) h (k .base) fewer _ (heard-ends h b _ illegal) refl ((live, heard-says Illegal e (λ u. let z : _≡_ {A = ℕ} 0 1 = cc in omega arith)), k .truly)
+      heard-class (State x) e = subst (λ (c : Class). Next s h (hears b) (answeredStep (closed l) c r)) (sym e) (heard-answered (ap replied (sym e)))
+      heard-class (Busy x) e = subst (λ (c : Class). Next s h (hears b) (answeredStep (closed l) c r)) (sym e) (heard-answered (ap replied (sym e)))
+      heard-class (Rejecting x) e = subst (λ (c : Class). Next s h (hears b) (answeredStep (closed l) c r)) (sym e) (heard-answered (ap replied (sym e)))
+      heard-class (Failing x) e = subst (λ (c : Class). Next s h (hears b) (answeredStep (closed l) c r)) (sym e) (heard-answered (ap replied (sym e)))
+      heard-class (Escrow x) e = subst (λ (c : Class). Next s h (hears b) (answeredStep (closed l) c r)) (sym e) (heard-answered (ap replied (sym e)))
+      heard-class (Stacked x) e = subst (λ (c : Class). Next s h (hears b) (answeredStep (closed l) c r)) (sym e) (heard-answered (ap replied (sym e)))
+      heard-class (Returned x) e = subst (λ (c : Class). Next s h (hears b) (answeredStep (closed l) c r)) (sym e) (heard-answered (ap replied (sym e)))
+      heard-class Unknown e = subst (λ (c : Class). Next s h (hears b) (answeredStep (closed l) c r)) (sym e) (heard-answered (ap replied (sym e)))
 
     -- a full frame, good or bad
     heard-full : (b : ℕ) (f : List ℕ) → f ≡ fromStart (since h ++ (b ∷ [])) → getD f 1 0 ≡ 0x03 → Bytes f
-        → Next s h (hears b) (judgedStep (found f) (closed l) r)
+        → 3 ≤ length f → getD f 2 0 ≡ length f → Next s h (hears b) (judgedStep (found f) (closed l) r)
     unfolding found between
-    heard-full b f is named bytes = by (judgeFrame f) refl
+    heard-full b f is named bytes long sized = by (judgeFrame f) refl
       where
         by : (j : Judged) → judgeFrame f ≡ j → Next s h (hears b) (judgedStep (foundIn j f) (closed l) r)
         by (Passed a) e =
             let good = good-frame f a e bytes in
             let three : a ≡ 0x03 = sym (second a (bodyOf f)) ∙ ap (λ (x : List ℕ). getD x 1 0) good ∙ named in
-            heard-class b (bodyOf f) (rw e (ap between is)) (sym is ∙ sym good ∙ ap (λ (n : ℕ). frame n (bodyOf f)) three)
+            heard-class b (bodyOf f) (rw e (ap between is))
+            (sym is ∙ sym good ∙ ap (λ (n : ℕ). frame n (bodyOf f)) three, within-limits)
             (classOf (bodyOf f)) refl
-        by (Failed fault) e = heard-damaged b
+          where
+            within-limits : within 1 250 (length (bodyOf f)) .holds
+            within-limits = (omega (arith, good-size f a e, good-long f a e), omega (arith, good-size f a e, good-most f a e bytes))
+        by (Failed fault) e =
+            heard-damaged b
+            (subst (Says damaged) is
+            (wrong-frame f long sized (λ u. let v : Passed 0x03 ≡ Failed fault = sym u ∙ e in let z : _≡_ {A = ℕ} 0 1 = cc in omega arith)))
 
   -- ---- a byte that closes nothing
 
@@ -271,6 +339,7 @@ module _ (s : Session) (h : Past) (k : Agrees s h) where
           most = lit≤ tt;
           untold = λ u. refl;
           named = λ u. absurd (omega arith);
+          sized = λ u. absurd (omega arith);
           bytes = subst Bytes (sym f) (bytes-more [] b (λ i. lit≤ tt) small);
           bound = came-fewer (st .bound);
         }
@@ -302,8 +371,8 @@ module _ (s : Session) (h : Past) (k : Agrees s h) where
 
       -- one byte more of an answer
       came-kept : (n want : ℕ) → n ≡ l .got + 1 → n < want → want ≤ storeSize → (n ≤ 2 → want ≡ storeSize) → (n ≡ 2 → b ≡ 0x03)
-          → Gathering (inside l (l .left) n want) (set (s .store) (l .got) b) (came ∷ h)
-      came-kept n want e less most untold address =
+          → (3 ≤ n → getD (before ++ (b ∷ [])) 2 0 ≡ want) → Gathering (inside l (l .left) n want) (set (s .store) (l .got) b) (came ∷ h)
+      came-kept n want e less most untold address sized =
           let f : fromStart (since (came ∷ h)) ≡ before ++ (b ∷ []) = ap fromStart came-since ∙ came-from in
           let m : storeSize - l .got - 1 ≡ storeSize - n = omega arith in
           record {
@@ -315,6 +384,7 @@ module _ (s : Session) (h : Past) (k : Agrees s h) where
             most = most;
             untold = untold;
             named = λ u. ap (λ (x : List ℕ). getD x 1 0) f ∙ came-named (λ g. address (omega arith)) (omega arith);
+            sized = λ u. ap (λ (x : List ℕ). getD x 2 0) f ∙ sized u;
             bytes = subst Bytes (sym f) came-bytes;
             bound = came-fewer (st .bound);
           }
@@ -356,12 +426,12 @@ module _ (s : Session) (h : Past) (k : Agrees s h) where
 
       module _ (st : Gathering l (s .store) h) where
         kept : (n want : ℕ) → n ≡ l .got + 1 → n < want → want ≤ storeSize → (n ≤ 2 → want ≡ storeSize) → (n ≡ 2 → b ≡ 0x03)
-            → Next s h (hears b) (byteActed Keep (inside l (l .left) n want) (l .want) (s .store) (l .got) b r)
+            → (3 ≤ n → getD (before st ++ (b ∷ [])) 2 0 ≡ want) → Next s h (hears b) (byteActed Keep (inside l (l .left) n want) (l .want) (s .store) (l .got) b r)
         unfolding bookedBy
-        kept n want e less most untold address =
+        kept n want e less most untold address sized =
             record {
               base = came-base (inside l (l .left) n want) refl refl refl;
-              stands = came-kept st n want e less most untold address;
+              stands = came-kept st n want e less most untold address sized;
               truly = came-truly;
             }
 
@@ -369,16 +439,25 @@ module _ (s : Session) (h : Past) (k : Agrees s h) where
         unfolding addressByte
         after-address g =
             pick After (same b 0x03) _ _
-            (λ e. kept 2 (l .want) (omega arith) (omega (arith, st .untold (omega arith))) (st .most) (λ u. st .untold (omega arith)) (λ u. e))
-            (λ n. heard-damaged (st .bound) r b)
+            (λ e. kept 2 (l .want) (omega arith) (omega (arith, st .untold (omega arith))) (st .most) (λ u. st .untold (omega arith)) (λ u. e) (λ u. absurd (omega arith)))
+            (λ n.
+            heard-damaged (st .bound) (st .live) r b
+            (subst (Says damaged) (sym (came-from st))
+            (wrong-address (before st ++ (b ∷ [])) (omega (arith, came-size st)) (λ f. n (sym (getD-at (before st) b [] 0 1 (st .size ∙ g)) ∙ f)))))
 
         after-length : l .got ≡ 2 → After (lengthByte l b)
         unfolding lengthByte
         after-length g =
             pick After (under b 6) _ _
-            (λ e. heard-damaged (st .bound) r b)
-            (λ n. kept 3 b (omega arith) (omega (arith, least n)) (omega arith) (λ u. absurd (omega arith)) (λ u. absurd (omega arith)))
+            (λ e.
+            heard-damaged (st .bound) (st .live) r b
+            (subst (Says damaged) (sym (came-from st))
+            (wrong-length (before st ++ (b ∷ [])) (omega (arith, came-size st)) (omega (arith, e, sizing)))))
+            (λ n. kept 3 b (omega arith) (omega (arith, least n)) (omega arith) (λ u. absurd (omega arith)) (λ u. absurd (omega arith)) (λ u. sizing))
           where
+            sizing : getD (before st ++ (b ∷ [])) 2 0 ≡ b
+            sizing = getD-at (before st) b [] 0 2 (st .size ∙ g)
+
             least : (b < 6 → ⊥) → 6 ≤ b
             least n = omega arith
 
@@ -386,13 +465,18 @@ module _ (s : Session) (h : Past) (k : Agrees s h) where
         unfolding furtherByte judgeStep
         after-further g f =
             pick After (under (l .got + 1) (l .want)) _ _
-            (λ e. kept (l .got + 1) (l .want) refl e (st .most) (λ u. absurd (omega (arith, st .least, g, f))) (λ u. absurd (omega (arith, g))))
+            (λ e. kept (l .got + 1) (l .want) refl e (st .most) (λ u. absurd (omega (arith, st .least, g, f))) (λ u. absurd (omega (arith, g))) (λ u. sizing))
             (λ n.
             let whole = came-full st (omega (arith, st .less, n)) in
             let is = whole ∙ came-from st in
-            heard-full (st .bound) r b (take (l .want) (set (s .store) (l .got) b)) whole
+            heard-full (st .bound) (st .live) r b (take (l .want) (set (s .store) (l .got) b)) whole
             (ap (λ (x : List ℕ). getD x 1 0) is ∙ came-named st (λ q. absurd (g q)) (st .least))
-            (subst Bytes (sym is) (came-bytes st)))
+            (subst Bytes (sym is) (came-bytes st))
+            (omega (arith, st .least, g, f, ap length is, came-size st))
+            (ap (λ (x : List ℕ). getD x 2 0) is ∙ sizing ∙ omega (arith, st .less, n, ap length is, came-size st)))
+          where
+            sizing : getD (before st ++ (b ∷ [])) 2 0 ≡ l .want
+            sizing = List·getD-append (before st) (b ∷ []) 0 2 (omega (arith, st .least, st .size, g, f)) ∙ st .sized (omega (arith, st .least, g, f))
 
         after-inside : After (gathered l b)
         unfolding gathered
@@ -422,14 +506,10 @@ module _ (s : Session) (h : Past) (k : Agrees s h) where
     went-since : since (went ∷ h) ≡ since h
     unfolding since isFrame
     went-since = append-nil (since h)
-      where
-        append-nil : (x : List ℕ) → x ++ [] ≡ x
-        append-nil [] = refl
-        append-nil (a ∷ x) = ap (λ (y : List ℕ). a ∷ y) (append-nil x)
 
     went-truly : Truly (went ∷ h)
     unfolding Truly
-    went-truly = k .truly
+    went-truly = (tt, k .truly)
 
     went-open : isOpen (went ∷ h) ≡ isOpen h
     unfolding isOpen
@@ -462,6 +542,7 @@ module _ (s : Session) (h : Past) (k : Agrees s h) where
           most = st .most;
           untold = st .untold;
           named = λ u. ap (λ (x : List ℕ). getD (fromStart x) 1 0) went-since ∙ st .named u;
+          sized = λ u. ap (λ (x : List ℕ). getD (fromStart x) 2 0) went-since ∙ st .sized u;
           bytes = subst (λ (x : List ℕ). Bytes (fromStart x)) (sym went-since) (st .bytes);
           bound = went-fewer (st .bound);
         }
@@ -485,8 +566,8 @@ module _ (s : Session) (h : Past) (k : Agrees s h) where
         where
           by : (p : Phase) → l .phase ≡ p → Stands p l (s .store) h → Passed-by (expiredIn p l)
           by Idle q st = goes 0 (omega arith)
-          by Start q st = waited-silent (st .bound) r ms
-          by Inside q st = waited-damaged (st .bound) r ms
+          by Start q st = waited-silent (st .bound) (st .live) r ms (st .none)
+          by Inside q st = waited-damaged (st .bound) (st .live) r ms (λ z. omega (arith, ap length z, st .size, st .least))
 
       after-passed : Passed-by (passed l ms)
       unfolding passed
@@ -534,7 +615,7 @@ module _ (s : Session) (h : Past) (k : Agrees s h) where
                 nothing = refl;
                 bound = λ y small. omega (arith, st .bound y small);
               };
-          truly = k .truly;
+          truly = (tt, k .truly);
         }
 
 -- ---- the calls
@@ -556,6 +637,7 @@ module _ (s : Session) (h : Past) (k : Agrees s h) where
         most = st .most;
         untold = st .untold;
         named = st .named;
+        sized = st .sized;
         bytes = st .bytes;
         bound = st .bound;
       }
@@ -719,4 +801,4 @@ module _ (s : Session) (h : Past) (k : Agrees s h) (code : ℕ) (given r : List 
 pub declines-by-history : DeclinesByHistory
 declines-by-history cs code given r =
     let s = run freshSession cs in
-    given-alike (exactly-when .request s code given r) (refusals-alike s (history cs) (always-agrees cs) code given r)
+    given-alike (exactly-when .request s code given r) (refusals-alike s (history cs) (always-agrees cs) code given r) refl

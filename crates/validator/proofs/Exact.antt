@@ -2,6 +2,7 @@
 -- closing calls for. Assumes nothing.
 use Prim.Native.Nat.{ℕ}
 use mathlib.Core.Path.{_≡_, refl, sym, _∙_}
+use mathlib.Core.Bool.{true}
 use mathlib.Core.List.{List, _∷_}
 use native.Mathlib.Omega.{arith}
 use lib.ListN.{set, take}
@@ -10,7 +11,7 @@ use Rattle.numbers.proofs.Rules.{either-way}
 use Rattle.ccnet_frame.specs.Frame.{frame}
 use Rattle.ccnet_frame.specs.declared.class.Class.{Class}
 use Rattle.ccnet_frame.specs.declared.class.Class.the-variants.{Ack, Nak, Illegal, State, Busy, Rejecting, Failing, Escrow, Stacked, Returned, Unknown}
-use Rattle.ledger.proofs.Declining.{Apart, given-exactly}
+use Rattle.ledger.proofs.Declining.{Apart, rising, given-exactly}
 use Rattle.validator.specs.Line.{heard, passed}
 use Rattle.validator.specs.Bills.{bookedBy}
 use Rattle.validator.specs.Session.{After, Sent, sent, sending, LentAfter, StepAfter, byteRefusals, tickRefusals, requestRefusals, refusedStep, stepAfter, lentAfter, afterStep, damagedStep, answeredStep, classStep, judgedStep, judgeStep, found, acted, byteActed, byteStep, tickStep, requestStep, sessionRequest, sessionByte, sessionTick}
@@ -101,19 +102,32 @@ module _ (l : Line) (r : List ℕ) where
 abbrev opening : Session → StepAfter → After
 opening s w = record { session = record { line = w .step .line; bills = s .bills; store = s .store }; reply = w .step .reply; room = w .room }
 
+-- the numbers that the rules give rise
+request-rises : (l : Line) (code : ℕ) (given r : List ℕ) → rising (requestRefusals l code given r) ≡ true
+unfolding requestRefusals
+request-rises l code given r = refl
+
+byte-rises : (r : List ℕ) → rising (byteRefusals r) ≡ true
+unfolding byteRefusals
+byte-rises r = refl
+
+tick-rises : (ms : ℕ) (r : List ℕ) → rising (tickRefusals ms r) ≡ true
+unfolding tickRefusals
+tick-rises ms r = refl
+
 pub exactly-when : ExactlyWhen
 unfolding sessionRequest sessionByte sessionTick requestStep byteStep tickStep bookedBy
 exactly-when =
     record {
       request = λ s code given r.
-          given-exactly apart (λ why. stepAfter (refusedStep (s .line) why) r) _ (opening s) (λ why. refl) (λ why. refl) (_, (_, refl));
+          given-exactly apart (λ why. stepAfter (refusedStep (s .line) why) r) _ (opening s) (request-rises (s .line) code given r) (λ why. refl) (λ why. refl) (_, (_, refl));
       byte = λ s b r.
           let t = heard (s .line) b in
-          given-exactly apart (λ why. lentAfter (refusedStep (s .line) why) (s .store) r) _ (afterStep s) (λ why. refl) (λ why. refl)
+          given-exactly apart (λ why. lentAfter (refusedStep (s .line) why) (s .store) r) _ (afterStep s) (byte-rises r) (λ why. refl) (λ why. refl)
           (is-done (byte-told (t .line) r (t .todo) (s .line .want) (s .store) (s .line .got) b));
       tick = λ s ms r.
           let t = passed (s .line) ms in
-          given-exactly apart (λ why. lentAfter (refusedStep (s .line) why) (s .store) r) _ (afterStep s) (λ why. refl) (λ why. refl)
+          given-exactly apart (λ why. lentAfter (refusedStep (s .line) why) (s .store) r) _ (afterStep s) (tick-rises ms r) (λ why. refl) (λ why. refl)
           (is-done (acted-told (t .line) r (t .todo) (s .store)));
     }
 

@@ -8,7 +8,7 @@ use mathlib.Core.List.{List, [], _∷_, _++_}
 use native.Mathlib.Omega.{arith}
 use lib.Dec.{eqb}
 use lib.ListN.{length, getD, take, drop, replicate}
-use Rattle.numbers.specs.Rules.{Tells, Condition, Rule, says, under, atMost, same, both, isnt, and-tells, _gives_}
+use Rattle.numbers.specs.Rules.{Tells, Condition, Rule, says, under, atMost, within, same, both, isnt, and-tells, _gives_}
 use Rattle.ccnet_frame.specs.Frame.{frame}
 use Rattle.ccnet_frame.specs.Class.{classOf}
 use Rattle.ledger.specs.Events.{Deed, asks, hears, waits, Left, goes-on, closes, Event, declined, done, History, since}
@@ -159,26 +159,50 @@ unfoldable pub counted : ℕ → Past → ℕ
 counted y [] = 0
 counted y (e ∷ h) = cond (adds y e h .test) (counted y h + 1) (counted y h)
 
--- what the bytes say that ended with a closing: ACK, NAK, "illegal" and any other answer are frames as the layout has them, from address 03h
+-- f is a good frame from address 03h with that body: "an answer's body is 1 to 250 data bytes"
+abbrev pub Carries : List ℕ → List ℕ → Type 0
+Carries f body = (f ≡ frame 0x03 body) × within 1 250 (length body) .holds
+
+-- a body other than these: "A body of one byte 00h is ACK, FFh is NAK, 30h is 'illegal command'"
+abbrev pub Other : List ℕ → Type 0
+Other body = (body ≡ 0x00 ∷ [] → ⊥) × ((body ≡ 0xFF ∷ [] → ⊥) × (body ≡ 0x30 ∷ [] → ⊥))
+
+-- what the bytes from 02h on are where a byte closes the command: a good frame from address 03h, and the closing is what its body says; or, where
+-- it is damaged ("a wrong address (not 03h) or length byte, at that byte, a wrong check"), neither a good frame from address 03h nor the beginning
+-- of one. No byte closes as silent
 abbrev pub Says : Ending → List ℕ → Type 0
-Says acknowledged f = f ≡ frame 0x03 (0x00 ∷ [])
-Says refused f = f ≡ frame 0x03 (0xFF ∷ [])
-Says illegal f = f ≡ frame 0x03 (0x30 ∷ [])
-Says answered f = f ≡ frame 0x03 (between f)
-Says damaged f = Unit {0}
-Says silent f = Unit {0}
+Says acknowledged f = Carries f (0x00 ∷ [])
+Says refused f = Carries f (0xFF ∷ [])
+Says illegal f = Carries f (0x30 ∷ [])
+Says answered f = Carries f (between f) × Other (between f)
+Says damaged f = (body rest : List ℕ) → Carries (f ++ rest) body → ⊥
+Says silent f = ⊥
 
-abbrev pub SaysOnce : Left Ending → List ℕ → Type 0
-SaysOnce goes-on f = Unit {0}
-SaysOnce (closes k) f = Says k f
+-- and where a tick closes it: "a late frame sends a NAK frame and closes as damaged; nothing started, closes as silent". How late is not said here
+abbrev pub Lapses : Ending → List ℕ → Type 0
+Lapses acknowledged f = ⊥
+Lapses refused f = ⊥
+Lapses illegal f = ⊥
+Lapses answered f = ⊥
+Lapses damaged f = f ≡ [] → ⊥
+Lapses silent f = f ≡ []
 
--- every closing that a call returned is what the bytes said
+-- by what was called after h; a request closes nothing
+abbrev pub SaysBy : Deed Request → Ending → Past → Type 0
+SaysBy (asks q) k h = ⊥
+SaysBy (hears b) k h = Says k (fromStart (since h ++ (b ∷ [])))
+SaysBy (waits ms) k h = Lapses k (fromStart (since h))
+
+-- what a closing says; only an open command is closed
+abbrev pub SaysOnce : Left Ending → Deed Request → Past → Type 0
+SaysOnce goes-on d h = Unit {0}
+SaysOnce (closes k) d h = (isOpen h ≡ true) × SaysBy d k h
+
+-- every closing that a call returned is what the bytes said, or that they did not come
 unfoldable pub Truly : Past → Type 0
 Truly [] = Unit {0}
 Truly (declined ∷ h) = Truly h
-Truly (done (asks q) put left ∷ h) = Truly h
-Truly (done (hears b) put left ∷ h) = SaysOnce left (fromStart (since h ++ (b ∷ []))) × Truly h
-Truly (done (waits ms) put left ∷ h) = Truly h
+Truly (done d put left ∷ h) = SaysOnce left d h × Truly h
 
 -- ---- what is promised, from a fresh session and after any calls at all
 

@@ -28,3 +28,7 @@ commandLimit = 1_000_000
 -- "a bill type 0 to 23": 24 stands for no type
 abbrev pub types : ℕ
 types = 24
+
+-- "a tick is not 1 to 1,000 ms"
+abbrev pub longestTick : ℕ
+longestTick = 1_000

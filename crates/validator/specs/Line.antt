@@ -1,4 +1,4 @@
--- The line's discipline, sentence by sentence (01, "The validator session"). It says what is to be done, and knows nothing of bills.
+-- The line's discipline, sentence by sentence (01, "The validator session"). It says what is to be done, and counts no bills.
 use Prim.Native.Nat.{ℕ, _+_, _-_}
 use mathlib.Core.Bool.{Bool, true, false, cond}
 use lib.Dec.{ltb, eqb}

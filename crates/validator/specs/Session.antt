@@ -10,7 +10,7 @@ use Rattle.ccnet_frame.specs.declared.frame.Judged.{Judged}
 use Rattle.ccnet_frame.specs.declared.frame.Judged.the-variants.{Good as Passed, Refused as Failed}
 use Rattle.ccnet_frame.specs.declared.class.Class.{Class}
 use Rattle.ccnet_frame.specs.declared.class.Class.the-variants.{Ack, Nak, Illegal as NotLegal, State, Busy, Rejecting, Failing, Escrow, Stacked, Returned, Unknown}
-use Rattle.validator.specs.Limits.{leastRoom, commandLimit, storeSize, types}
+use Rattle.validator.specs.Limits.{leastRoom, commandLimit, storeSize, types, longestTick}
 use Rattle.validator.specs.Line.{freshLine, opened, remembers, isOpen, heard, passed}
 use Rattle.validator.specs.Bills.{poll, noBills, bookedBy, credited, remembered}
 use Rattle.validator.specs.declared.line.Line.{Line}
@@ -172,7 +172,7 @@ byteStep l store b r =
 
 -- "ticks 1 and 6"
 unfoldable pub tickRefusals : ℕ → List ℕ → List (Rule Declined)
-tickRefusals ms r = under (length r) leastRoom gives Room ∷ isnt (within 1 1_000 ms) gives Tick ∷ []
+tickRefusals ms r = under (length r) leastRoom gives Room ∷ isnt (within 1 longestTick ms) gives Tick ∷ []
 
 unfoldable pub tickStep : Line → List ℕ → ℕ → List ℕ → LentAfter
 tickStep l store ms r =

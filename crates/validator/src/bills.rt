@@ -8,7 +8,7 @@ pub struct Bills(pub u32);
 
 impl Bills {
     // So many bills more. A sum past the end of u32 would stay where it is: no session from a fresh one comes near, since each bill is
-    // the answer to a command and it accepts no more than 1,000,000.
+    // the answer to a command and it accepts no more than 1,000,000 (`few` of `KeptByHistory` in specs/History.antt).
     fn plus(self, n: u32) -> Bills
         ensures { λ r. ⌜ r ≡ plus self n ⌝ }
     {

@@ -1,4 +1,4 @@
-// The line's discipline: waits, gathering, and when a frame is to be judged. It knows nothing of bills.
+// The line's discipline: waits, gathering, and when a frame is to be judged. It counts no bills; it carries the type that was last reported.
 ghost use mathlib.Core.Path.{_≡_};
 ghost use Rattle.validator.specs.Line.{freshLine, opened, closed, remembers, inside, waits, isOpen, startByte, addressByte, lengthByte, furtherByte, gathered, heard, expired, passed};
 use crate::session::Session;
