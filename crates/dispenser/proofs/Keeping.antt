@@ -126,7 +126,7 @@ module _ (l : Line) (a : Asked) (w : Live l a) where
       pick (Turns l a) (same b 0x06) _ _
       (λ h. starts answerWait (l .naks) (w .is .naks))
       (λ n. pick (Turns l a) (same b _) _ _
-      (λ h. pick (Turns l a) (under (l .handed) handOvers) _ _ (λ g. hands _ (omega (arith, w .is .least)) (omega arith)) (λ g. closes _))
+      (λ h. pick (Turns l a) (under (l .handed) _) _ _ (λ g. hands (l .handed + 1) (omega (arith, w .is .least)) (omega arith)) (λ g. closes _))
       (λ m. closes _))
 
   bad-turns : Turns l a (badFrame l)
