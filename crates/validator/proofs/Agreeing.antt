@@ -438,12 +438,12 @@ module _ (s : Session) (h : Past) (k : Agrees s h) where
         after-address : l .got ≡ 1 → After (addressByte l b)
         unfolding addressByte
         after-address g =
-            pick After (same b 0x03) _ _
-            (λ e. kept 2 (l .want) (omega arith) (omega (arith, st .untold (omega arith))) (st .most) (λ u. st .untold (omega arith)) (λ u. e) (λ u. absurd (omega arith)))
+            pick After (same b _) _ _
+            (λ e. kept 2 (l .want) (omega arith) (omega (arith, st .untold (omega arith))) (st .most) (λ u. st .untold (omega arith)) (λ u. omega (arith, e)) (λ u. absurd (omega arith)))
             (λ n.
             heard-damaged (st .bound) (st .live) r b
             (subst (Says damaged) (sym (came-from st))
-            (wrong-address (before st ++ (b ∷ [])) (omega (arith, came-size st)) (λ f. n (sym (getD-at (before st) b [] 0 1 (st .size ∙ g)) ∙ f)))))
+            (wrong-address (before st ++ (b ∷ [])) (omega (arith, came-size st)) (λ f. let is = sym (getD-at (before st) b [] 0 1 (st .size ∙ g)) ∙ f in n (omega (arith, is))))))
 
         after-length : l .got ≡ 2 → After (lengthByte l b)
         unfolding lengthByte
