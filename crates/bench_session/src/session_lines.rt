@@ -11,7 +11,7 @@
 use dispenser::Closing;
 use dispenser::Reply;
 use dispenser::Session;
-use dispenser::Sums;
+use exchange::Sums;
 use numbers::Put;
 
 // What the line's second word tells, by its first letter.

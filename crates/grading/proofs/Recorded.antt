@@ -8,7 +8,8 @@ use native.Mathlib.Omega.{arith}
 use lib.ListN.{length}
 use Rattle.dispenser.specs.Session.{freshSession}
 use Rattle.dispenser.specs.Calls.{run as ran}
-use Rattle.dispenser.specs.History.{cassette, plain}
+use Rattle.exchange.specs.Machine.{plain}
+use Rattle.dispenser.specs.History.{cassette}
 use Rattle.dispenser.proofs.Demand3.{demand3}
 use Rattle.dispenser.specs.declared.session.Session.{Session}
 use Rattle.validator.specs.Session.{freshSession as freshToo}

@@ -11,7 +11,8 @@ use Rattle.ledger.specs.Account.{Balanced, sums}
 use Rattle.dispenser_frame.specs.declared.answer.Cassette.{Cassette}
 use Rattle.dispenser.specs.Session.{sessionRequest, sessionByte, sessionTick}
 use Rattle.dispenser.specs.Calls.{Call, request, byte, tick}
-use Rattle.dispenser.specs.History.{model2000T, history, cassette, plain}
+use Rattle.exchange.specs.Machine.{plain}
+use Rattle.dispenser.specs.History.{model2000T, history, cassette}
 use Rattle.validator.specs.Limits.{types}
 use Rattle.validator.specs.Bills.{bills}
 use Rattle.validator.specs.Session.{sessionRequest as requestToo, sessionByte as byteToo, sessionTick as tickToo}

@@ -7,12 +7,12 @@ use lib.ListN.{replicate}
 use Rattle.dispenser.specs.Account.{freshAccount}
 use Rattle.dispenser.specs.Session.{After, bookedBy, requestBooked, freshSession, sessionRequest, sessionByte, sessionTick}
 use Rattle.dispenser.specs.declared.account.Account.{Account}
-use Rattle.dispenser.specs.declared.exchange.Line.{Line}
+use Rattle.exchange.specs.declared.line.Line.{Line}
 use Rattle.dispenser.specs.declared.session.Asked.{Asked}
 use Rattle.dispenser.specs.declared.session.Reply.{Reply}
 use Rattle.dispenser.specs.declared.session.Reply.the-variants.{Refused, Done}
 use Rattle.dispenser.specs.declared.session.Session.{Session}
-use Rattle.dispenser.specs.Limits.{leastRoom}
+use Rattle.exchange.specs.Limits.{leastRoom}
 use Rattle.validator.specs.Limits.{leastRoom as leastToo}
 use Rattle.validator.specs.Bills.{noBills}
 use Rattle.validator.specs.Session.{After as AfterToo, freshSession as freshToo, sessionRequest as requestToo, sessionByte as byteToo, sessionTick as tickToo}

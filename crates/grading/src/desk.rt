@@ -37,7 +37,7 @@ pub struct Findings {
 // What changes with each record, but for stores, rooms and what is booked: the dispenser's line and its command, the other line (the validator's), and
 // the counts.
 pub(crate) struct Run {
-    pub line: dispenser::Line,
+    pub line: exchange::Line,
     pub asked: Asked,
     pub other: validator::Line,
     pub declined: u64,
@@ -46,7 +46,7 @@ pub(crate) struct Run {
 
 // The parts, field by field. Moved whole, a struct with an enum in it is copied through memory for every record.
 fn assembled(
-    line: dispenser::Line,
+    line: exchange::Line,
     asked: Asked,
     other: validator::Line,
     declined: u64,
@@ -57,7 +57,7 @@ fn assembled(
     let phase = line.phase;
     let stand = other.phase;
     Run {
-        line: dispenser::Line {
+        line: exchange::Line {
             left: line.left,
             need: line.need,
             accepted: line.accepted,

@@ -11,7 +11,7 @@ use Rattle.numbers.specs.Rules.{same}
 use Rattle.numbers.proofs.Rules.{fails-false, by-cases}
 use Rattle.dispenser_frame.specs.Table.{table, codeIn, known, answerFields, answerLength}
 use Rattle.dispenser_frame.specs.Errors.{among}
-use Rattle.dispenser_frame.proofs.Codes.{length-none, length-some}
+use Rattle.xor_frame.proofs.Lengths.{length-none, length-some}
 use Rattle.recording.specs.Record.{inList}
 
 known-below : (code : ℕ) → known code .holds → code < 256
@@ -30,8 +30,8 @@ known-above code h = fails-false (known code) (λ k. omega (arith, known-below c
 pub known-length : (code n : ℕ) → n ≡ answerLength code → ltb 0 n ≡ known code .test
 known-length code n e =
     by-cases (same n 0)
-    (λ z. ap (ltb 0) z ∙ sym (length-none answerFields code (sym e ∙ z)))
-    (λ z. lt-ltb 0 n (omega arith) ∙ sym (length-some answerFields code (λ y. z (e ∙ y))))
+    (λ z. ap (ltb 0) z ∙ sym (length-none known answerFields code (sym e ∙ z)))
+    (λ z. lt-ltb 0 n (omega arith) ∙ sym (length-some known answerFields code (λ y. z (e ∙ y))))
 
 listed-below : (code : ℕ) → inList code .holds → code < 256
 unfolding inList among

@@ -9,12 +9,14 @@ use lib.ListN.{length, getD, set, length-append, length-set}
 use Rattle.numbers.specs.Rules.{under, same}
 use Rattle.numbers.specs.Promises.{Bytes}
 use Rattle.numbers.proofs.Rules.{by-cases}
-use Rattle.dispenser.specs.Calls.{Bounded, run as ran}
+use Rattle.exchange.specs.Machine.{Bounded}
+use Rattle.dispenser.specs.Calls.{run as ran}
 use Rattle.dispenser.specs.Session.{freshSession}
-use Rattle.dispenser.specs.declared.account.Sums.{Sums}
+use Rattle.exchange.specs.declared.notes.Sums.{Sums}
 use Rattle.dispenser.specs.declared.account.Account.{Account}
 use Rattle.dispenser.specs.declared.session.Session.{Session}
-use Rattle.dispenser.proofs.Keeping.{never-cut}
+use Rattle.dispenser.proofs.Demand3.{never-cut}
+use Rattle.dispenser_frame.specs.declared.answer.Cassette.the-variants.{Upper, Lower}
 use Rattle.validator.specs.Limits.{types}
 use Rattle.validator.specs.Bills.{bills, bookedBy, plus}
 use Rattle.validator.specs.Session.{freshSession as freshToo, sessionRequest as requestToo, sessionByte as byteToo, sessionTick as tickToo}
@@ -180,8 +182,8 @@ good-enough s xs h e =
     = λ k l. omega (arith, sym (ap (λ (f : Findings). getD (f .bills) k (bills 0) .0) (good-replay s xs e)) ∙ r .bills-told k l, kept-by-history .few (callsToo freshDesk xs (p .0)) k l) in
     rw (good-replay s xs e)
     (good-most (run freshDesk xs .dispenser .account) (run freshDesk xs .validator .bills) (run freshDesk xs .declined) (run freshDesk xs .records)
-    (subst (λ (y : Session). Few (y .account .upper)) (sym c) (bounded-few (ran freshSession (calls freshDesk xs) .account .upper) (cut .0)))
-    (subst (λ (y : Session). Few (y .account .lower)) (sym c) (bounded-few (ran freshSession (calls freshDesk xs) .account .lower) (cut .1)))
+    (subst (λ (y : Session). Few (y .account .upper)) (sym c) (bounded-few (ran freshSession (calls freshDesk xs) .account .upper) (cut Upper)))
+    (subst (λ (y : Session). Few (y .account .lower)) (sym c) (bounded-few (ran freshSession (calls freshDesk xs) .account .lower) (cut Lower)))
     (bills-ran freshDesk xs ∙ fresh-bills)
     b
     (omega (arith, n, refusals-most freshDesk xs, sym (ap (λ (f : Findings). f .declined) (good-replay s xs e)) ∙ r .declined))

@@ -5,7 +5,7 @@ use mathlib.Core.Bool.{cond}
 use mathlib.Core.List.{List, [], _∷_, _++_}
 use lib.Dec.{eqb}
 use Rattle.numbers.specs.Decimal.{decimal}
-use Rattle.dispenser.specs.declared.account.Sums.{Sums}
+use Rattle.exchange.specs.declared.notes.Sums.{Sums}
 use Rattle.dispenser.specs.declared.account.Account.{Account}
 use Rattle.recording.specs.Record.{faultNumber}
 use Rattle.recording.specs.declared.Fault.{Fault}

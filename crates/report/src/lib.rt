@@ -9,7 +9,7 @@ ghost use Rattle.numbers.specs.Put.{written, writing};
 ghost use Rattle.report.specs.Text.{longest, Adds};
 ghost use Rattle.report.specs.Report.{line, lines, paidPart, unpaidPart, sumsLine, typeLine, typeLines, goodLines, badLine, reportText, reportOf};
 use dispenser::Account;
-use dispenser::Sums;
+use exchange::Sums;
 use grading::Ending;
 use grading::Findings;
 use grading::replay;

@@ -1,0 +1,7 @@
+pub mod Check
+pub mod Lengths
+pub mod Raw
+pub mod Fields
+pub mod Frames
+pub mod Reading
+pub mod Tied

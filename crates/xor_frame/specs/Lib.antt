@@ -1,0 +1,4 @@
+-- What the contracts of `xor_frame` cite.
+pub mod Layout
+pub mod Frame
+pub mod Parts
