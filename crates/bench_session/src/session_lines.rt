@@ -8,10 +8,10 @@
 //     session account:
 //
 // A call that sends, closes or is refused says so in a line of its own.
-use dispenser::Closing;
-use dispenser::Reply;
-use dispenser::Session;
-use exchange::Sums;
+use dispenser_rules::Closing;
+use dispenser_rules::Reply;
+use dispenser_rules::Session;
+use exchange_rules::Sums;
 use numbers::Put;
 
 // What the line's second word tells, by its first letter.
@@ -62,7 +62,7 @@ fn request_in(
     lent: &mut [u8],
 ) -> Session {
     let end = sheet::at_most(size as usize, lent);
-    let outcome = session.request(code, upper, lower, &mut lent[0..end]);
+    let outcome = dispenser::request(session, code, upper, lower, &mut lent[0..end]);
     let next = outcome.session;
     let reply = outcome.reply;
     show(reply, lent);
@@ -99,7 +99,7 @@ fn byte(session: Session, b: u8, size: u32) -> Session {
 
 fn byte_in(session: Session, b: u8, size: u32, lent: &mut [u8]) -> Session {
     let end = sheet::at_most(size as usize, lent);
-    let outcome = session.byte(b, &mut lent[0..end]);
+    let outcome = dispenser::byte(session, b, &mut lent[0..end]);
     let next = outcome.session;
     let reply = outcome.reply;
     show(reply, lent);
@@ -130,7 +130,7 @@ fn tick(session: Session, ms: u32, size: u32) -> Session {
 
 fn tick_in(session: Session, ms: u32, size: u32, lent: &mut [u8]) -> Session {
     let end = sheet::at_most(size as usize, lent);
-    let outcome = session.tick(ms, &mut lent[0..end]);
+    let outcome = dispenser::tick(session, ms, &mut lent[0..end]);
     let next = outcome.session;
     let reply = outcome.reply;
     show(reply, lent);
@@ -152,10 +152,10 @@ fn commands(times: u32, session: Session) -> Session {
 fn command(session: Session) -> Session {
     let mut lent = sheet::short_room();
     let quiet = quietly(session, &mut lent);
-    let open = quiet.request(0x44, 0, 0, &mut lent).session;
-    let again = open.byte(0x15, &mut lent).session;
-    let third = again.byte(0x15, &mut lent).session;
-    third.byte(0x15, &mut lent).session
+    let open = dispenser::request(quiet, 0x44, 0, 0, &mut lent).session;
+    let again = dispenser::byte(open, 0x15, &mut lent).session;
+    let third = dispenser::byte(again, 0x15, &mut lent).session;
+    dispenser::byte(third, 0x15, &mut lent).session
 }
 
 // Quiet enough for the next command.
@@ -163,7 +163,7 @@ fn quietly(session: Session, lent: &mut [u8]) -> Session {
     let mut now = session;
     let mut k: u32 = 0;
     while k < 6 {
-        now = now.tick(1_000, lent).session;
+        now = dispenser::tick(now, 1_000, lent).session;
         k += 1;
     }
     now

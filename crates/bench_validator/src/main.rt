@@ -1,7 +1,7 @@
 // The lines of the bench sheet that a validator session takes, run. A line of the file `stdin` that begins with session is a call or calls, and
 // is written with what came of it; any other line is written as it stands. The file `stdout` has what the run must write, made from
 // document 01 and not from a run.
-use validator::Session;
+use validator_rules::Session;
 
 mod show;
 mod validator_lines;

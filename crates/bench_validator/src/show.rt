@@ -2,10 +2,10 @@
 ghost use Prim.Native.Nat.{_≤_};
 use ccnet_frame::Class;
 use numbers::Put;
-use validator::Bills;
-use validator::Closing;
-use validator::Reply;
-use validator::Session;
+use validator_rules::Bills;
+use validator_rules::Closing;
+use validator_rules::Reply;
+use validator_rules::Session;
 
 pub(crate) fn reply(reply: Reply, lent: &[u8]) {
     match reply {

@@ -9,7 +9,7 @@
 //
 // A call that sends, closes or is refused says so in a line of its own.
 use crate::show;
-use validator::Session;
+use validator_rules::Session;
 
 // What the line's second word tells, by its first letter.
 pub(crate) fn run(line: &[u8], session: Session) -> Session {
@@ -62,7 +62,7 @@ fn ask(session: Session, code: u8, size: u32, given: &[u8]) -> Session {
 
 fn ask_in(session: Session, code: u8, size: u32, given: &[u8], lent: &mut [u8]) -> Session {
     let end = sheet::at_most(size as usize, lent);
-    let outcome = session.request(code, given, &mut lent[0..end]);
+    let outcome = validator::request(session, code, given, &mut lent[0..end]);
     let next = outcome.session;
     let reply = outcome.reply;
     show::reply(reply, lent);
@@ -99,7 +99,7 @@ fn byte(session: Session, b: u8, size: u32) -> Session {
 
 fn byte_in(session: Session, b: u8, size: u32, lent: &mut [u8]) -> Session {
     let end = sheet::at_most(size as usize, lent);
-    let outcome = session.byte(b, &mut lent[0..end]);
+    let outcome = validator::byte(session, b, &mut lent[0..end]);
     let next = outcome.session;
     let reply = outcome.reply;
     show::reply(reply, lent);
@@ -130,7 +130,7 @@ fn tick(session: Session, ms: u32, size: u32) -> Session {
 
 fn tick_in(session: Session, ms: u32, size: u32, lent: &mut [u8]) -> Session {
     let end = sheet::at_most(size as usize, lent);
-    let outcome = session.tick(ms, &mut lent[0..end]);
+    let outcome = validator::tick(session, ms, &mut lent[0..end]);
     let next = outcome.session;
     let reply = outcome.reply;
     show::reply(reply, lent);
@@ -155,7 +155,7 @@ fn polls_in(times: u32, session: Session, lent: &mut [u8]) -> Session {
 }
 
 fn poll(session: Session, lent: &mut [u8]) -> Session {
-    let quiet = session.tick(20, lent).session;
-    let open = quiet.request(0x33, &[], lent).session;
-    open.tick(10, lent).session
+    let quiet = validator::tick(session, 20, lent).session;
+    let open = validator::request(quiet, 0x33, &[], lent).session;
+    validator::tick(open, 10, lent).session
 }

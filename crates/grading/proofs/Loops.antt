@@ -6,12 +6,12 @@ use mathlib.Core.List.{List, []}
 use native.Mathlib.Omega.{arith}
 use lib.ListN.{length, drop}
 use borrow.Author.Tests.{le-ltb}
-use Rattle.dispenser.specs.declared.account.Account.{Account}
-use Rattle.dispenser.specs.Session.{sessionRequest, sessionByte, sessionTick}
-use Rattle.validator.specs.Session.{sessionRequest as requestToo, sessionByte as byteToo, sessionTick as tickToo}
-use Rattle.validator.specs.Limits.{types}
-use Rattle.validator.specs.Bills.{bookedBy}
-use Rattle.validator.specs.declared.bills.Bills.{Bills}
+use Rattle.dispenser_rules.specs.declared.account.Account.{Account}
+use Rattle.dispenser_rules.specs.Session.{sessionRequest, sessionByte, sessionTick}
+use Rattle.validator_rules.specs.Session.{sessionRequest as requestToo, sessionByte as byteToo, sessionTick as tickToo}
+use Rattle.validator_rules.specs.Limits.{types}
+use Rattle.validator_rules.specs.Bills.{bookedBy}
+use Rattle.validator_rules.specs.declared.bills.Bills.{Bills}
 use Rattle.recording.specs.Record.{mostBytes}
 use Rattle.recording.specs.Reading.{Reading, records, bad, freshReader, ended, also, readingFrom}
 use Rattle.recording.specs.Taking.{foundAt}

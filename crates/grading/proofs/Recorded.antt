@@ -6,16 +6,16 @@ use mathlib.Core.Bool.{Bool, true, false, cond}
 use mathlib.Core.List.{List, [], _∷_}
 use native.Mathlib.Omega.{arith}
 use lib.ListN.{length}
-use Rattle.dispenser.specs.Session.{freshSession}
-use Rattle.dispenser.specs.Calls.{run as ran}
-use Rattle.exchange.specs.Machine.{plain}
-use Rattle.dispenser.specs.History.{cassette}
-use Rattle.dispenser.proofs.Demand3.{demand3}
-use Rattle.dispenser.specs.declared.session.Session.{Session}
-use Rattle.validator.specs.Session.{freshSession as freshToo}
-use Rattle.validator.specs.Calls.{run as ranToo}
-use Rattle.validator.specs.declared.session.Session.{Session as SessionToo}
-use Rattle.validator.proofs.Agreeing.{kept-by-history}
+use Rattle.dispenser_rules.specs.Session.{freshSession}
+use Rattle.dispenser_rules.specs.Calls.{run as ran}
+use Rattle.exchange_rules.specs.Machine.{plain}
+use Rattle.dispenser_rules.specs.History.{cassette}
+use Rattle.dispenser_rules.proofs.Demand3.{demand3}
+use Rattle.dispenser_rules.specs.declared.session.Session.{Session}
+use Rattle.validator_rules.specs.Session.{freshSession as freshToo}
+use Rattle.validator_rules.specs.Calls.{run as ranToo}
+use Rattle.validator_rules.specs.declared.session.Session.{Session as SessionToo}
+use Rattle.validator_rules.proofs.Agreeing.{kept-by-history}
 use Rattle.recording.specs.Record.{AllInRange}
 use Rattle.recording.proofs.Exact.{exactly-when}
 use Rattle.recording.specs.Reading.{records, readRecording}

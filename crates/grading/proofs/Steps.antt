@@ -1,8 +1,8 @@
 -- The validator session's part in a record. Assumes nothing.
 use mathlib.Core.Path.{_≡_, ap, ap₂}
-use Rattle.dispenser.specs.Session.{After, StepAfter as Done, bookedBy}
-use Rattle.dispenser.specs.declared.session.Session.{Session}
-use Rattle.validator.specs.Session.{LentAfter, StepAfter, afterStep}
+use Rattle.dispenser_rules.specs.Session.{After, StepAfter as Done, bookedBy}
+use Rattle.dispenser_rules.specs.declared.session.Session.{Session}
+use Rattle.validator_rules.specs.Session.{LentAfter, StepAfter, afterStep}
 use Rattle.grading.specs.Replay.{Desk, byValidator, byBoth}
 
 -- a byte, whose step is w by its contract

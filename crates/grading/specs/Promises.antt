@@ -9,15 +9,15 @@ use lib.ListN.{length, getD}
 use Rattle.numbers.specs.Promises.{Bytes}
 use Rattle.ledger.specs.Account.{Balanced, sums}
 use Rattle.dispenser_frame.specs.declared.answer.Cassette.{Cassette}
-use Rattle.dispenser.specs.Session.{sessionRequest, sessionByte, sessionTick}
-use Rattle.dispenser.specs.Calls.{Call, request, byte, tick}
-use Rattle.exchange.specs.Machine.{plain}
-use Rattle.dispenser.specs.History.{model2000T, history, cassette}
-use Rattle.validator.specs.Limits.{types}
-use Rattle.validator.specs.Bills.{bills}
-use Rattle.validator.specs.Session.{sessionRequest as requestToo, sessionByte as byteToo, sessionTick as tickToo}
-use Rattle.validator.specs.Calls.{Call as CallToo, request as asksToo, byte as hearsToo, tick as waitsToo}
-use Rattle.validator.specs.History.{history as historyToo, counted}
+use Rattle.dispenser_rules.specs.Session.{sessionRequest, sessionByte, sessionTick}
+use Rattle.dispenser_rules.specs.Calls.{Call, request, byte, tick}
+use Rattle.exchange_rules.specs.Machine.{plain}
+use Rattle.dispenser_rules.specs.History.{model2000T, history, cassette}
+use Rattle.validator_rules.specs.Limits.{types}
+use Rattle.validator_rules.specs.Bills.{bills}
+use Rattle.validator_rules.specs.Session.{sessionRequest as requestToo, sessionByte as byteToo, sessionTick as tickToo}
+use Rattle.validator_rules.specs.Calls.{Call as CallToo, request as asksToo, byte as hearsToo, tick as waitsToo}
+use Rattle.validator_rules.specs.History.{history as historyToo, counted}
 use Rattle.recording.specs.Record.{InRange, AllInRange}
 use Rattle.recording.specs.Reading.{records, readRecording}
 use Rattle.recording.specs.declared.Record.{Record}

@@ -4,23 +4,23 @@ use Prim.Native.Nat.{ℕ, _+_}
 use mathlib.Core.Bool.{Bool, true, false, cond, _||_}
 use mathlib.Core.List.{List, [], _∷_}
 use lib.ListN.{replicate}
-use Rattle.dispenser.specs.Account.{freshAccount}
-use Rattle.dispenser.specs.Session.{After, bookedBy, requestBooked, freshSession, sessionRequest, sessionByte, sessionTick}
-use Rattle.dispenser.specs.declared.account.Account.{Account}
-use Rattle.exchange.specs.declared.line.Line.{Line}
-use Rattle.dispenser.specs.declared.session.Asked.{Asked}
-use Rattle.dispenser.specs.declared.session.Reply.{Reply}
-use Rattle.dispenser.specs.declared.session.Reply.the-variants.{Refused, Done}
-use Rattle.dispenser.specs.declared.session.Session.{Session}
-use Rattle.exchange.specs.Limits.{leastRoom}
-use Rattle.validator.specs.Limits.{leastRoom as leastToo}
-use Rattle.validator.specs.Bills.{noBills}
-use Rattle.validator.specs.Session.{After as AfterToo, freshSession as freshToo, sessionRequest as requestToo, sessionByte as byteToo, sessionTick as tickToo}
-use Rattle.validator.specs.declared.bills.Bills.{Bills}
-use Rattle.validator.specs.declared.line.Line.{Line as LineToo}
-use Rattle.validator.specs.declared.session.Reply.{Reply as ReplyToo}
-use Rattle.validator.specs.declared.session.Reply.the-variants.{Refused as RefusedToo, Done as DoneToo}
-use Rattle.validator.specs.declared.session.Session.{Session as SessionToo}
+use Rattle.dispenser_rules.specs.Account.{freshAccount}
+use Rattle.dispenser_rules.specs.Session.{After, bookedBy, requestBooked, freshSession, sessionRequest, sessionByte, sessionTick}
+use Rattle.dispenser_rules.specs.declared.account.Account.{Account}
+use Rattle.exchange_rules.specs.declared.line.Line.{Line}
+use Rattle.dispenser_rules.specs.declared.session.Asked.{Asked}
+use Rattle.dispenser_rules.specs.declared.session.Reply.{Reply}
+use Rattle.dispenser_rules.specs.declared.session.Reply.the-variants.{Refused, Done}
+use Rattle.dispenser_rules.specs.declared.session.Session.{Session}
+use Rattle.exchange_rules.specs.Limits.{leastRoom}
+use Rattle.validator_rules.specs.Limits.{leastRoom as leastToo}
+use Rattle.validator_rules.specs.Bills.{noBills}
+use Rattle.validator_rules.specs.Session.{After as AfterToo, freshSession as freshToo, sessionRequest as requestToo, sessionByte as byteToo, sessionTick as tickToo}
+use Rattle.validator_rules.specs.declared.bills.Bills.{Bills}
+use Rattle.validator_rules.specs.declared.line.Line.{Line as LineToo}
+use Rattle.validator_rules.specs.declared.session.Reply.{Reply as ReplyToo}
+use Rattle.validator_rules.specs.declared.session.Reply.the-variants.{Refused as RefusedToo, Done as DoneToo}
+use Rattle.validator_rules.specs.declared.session.Session.{Session as SessionToo}
 use Rattle.recording.specs.Reading.{Reading, records, bad, readRecording}
 use Rattle.recording.specs.declared.Fault.{Fault}
 use Rattle.recording.specs.declared.Record.{Record}

@@ -5,19 +5,19 @@ ghost use mathlib.Core.Path.{_≡_};
 ghost use mathlib.Core.Bool.{cond, _||_};
 ghost use mathlib.Core.List.{List};
 ghost use Prim.Native.Nat.{ℕ, _+_, _<_};
-ghost use Rattle.dispenser.specs.declared.account.Account.{Account};
-ghost use Rattle.validator.specs.Bills.{bookedBy};
-ghost use Rattle.validator.specs.declared.bills.Bills.{Bills};
+ghost use Rattle.dispenser_rules.specs.declared.account.Account.{Account};
+ghost use Rattle.validator_rules.specs.Bills.{bookedBy};
+ghost use Rattle.validator_rules.specs.declared.bills.Bills.{Bills};
 ghost use Rattle.recording.specs.declared.Record.the-variants.{Request, DispenserByte, Tick, ValidatorByte, Command};
 ghost use Rattle.grading.specs.Replay.{declines, declinesToo, runOf, entered, joined, given, badFindings, replayOf};
-use dispenser::Account;
-use dispenser::Asked;
+use dispenser_rules::Account;
+use dispenser_rules::Asked;
 use recording::Fault;
 use recording::Found;
 use recording::Reader;
 use recording::Record;
 use recording::record_at;
-use validator::Bills;
+use validator_rules::Bills;
 
 // How a replay ends: the recording is good, or bad by a fault that shows in the record at an offset.
 pub enum Ending {
@@ -37,18 +37,18 @@ pub struct Findings {
 // What changes with each record, but for stores, rooms and what is booked: the dispenser's line and its command, the other line (the validator's), and
 // the counts.
 pub(crate) struct Run {
-    pub line: exchange::Line,
+    pub line: exchange_rules::Line,
     pub asked: Asked,
-    pub other: validator::Line,
+    pub other: validator_rules::Line,
     pub declined: u64,
     pub records: u64,
 }
 
 // The parts, field by field. Moved whole, a struct with an enum in it is copied through memory for every record.
 fn assembled(
-    line: exchange::Line,
+    line: exchange_rules::Line,
     asked: Asked,
-    other: validator::Line,
+    other: validator_rules::Line,
     declined: u64,
     records: u64,
 ) -> Run
@@ -57,7 +57,7 @@ fn assembled(
     let phase = line.phase;
     let stand = other.phase;
     Run {
-        line: exchange::Line {
+        line: exchange_rules::Line {
             left: line.left,
             need: line.need,
             accepted: line.accepted,
@@ -72,7 +72,7 @@ fn assembled(
             lower: asked.lower,
             want: asked.want,
         },
-        other: validator::Line {
+        other: validator_rules::Line {
             left: other.left,
             accepted: other.accepted,
             code: other.code,
@@ -89,8 +89,8 @@ fn assembled(
 // What a record books in the account: nothing, what a request answered, or what a byte or a tick did.
 pub(crate) enum Entry {
     Nothing,
-    Asked(dispenser::Reply),
-    Heard(dispenser::Reply),
+    Asked(dispenser_rules::Reply),
+    Heard(dispenser_rules::Reply),
 }
 
 // What a record leaves.
@@ -102,22 +102,22 @@ pub(crate) struct Moved {
 }
 
 // Did the dispenser session refuse?
-fn is_declined(reply: dispenser::Reply) -> bool
+fn is_declined(reply: dispenser_rules::Reply) -> bool
     ensures { λ r. ⌜ r ≡ declines reply ⌝ }
 {
     match reply {
-        dispenser::Reply::Refused(_) => true,
-        dispenser::Reply::Done { put: _, closing: _ } => false,
+        dispenser_rules::Reply::Refused(_) => true,
+        dispenser_rules::Reply::Done { put: _, closing: _ } => false,
     }
 }
 
 // Did the validator session refuse?
-fn is_declined_too(reply: validator::Reply) -> bool
+fn is_declined_too(reply: validator_rules::Reply) -> bool
     ensures { λ r. ⌜ r ≡ declinesToo reply ⌝ }
 {
     match reply {
-        validator::Reply::Refused(_) => true,
-        validator::Reply::Done { put: _, closing: _ } => false,
+        validator_rules::Reply::Refused(_) => true,
+        validator_rules::Reply::Done { put: _, closing: _ } => false,
     }
 }
 
@@ -160,7 +160,7 @@ fn requested(run: Run, code: u8, upper: u32, lower: u32, room: &mut [u8; 16]) ->
     Moved {
         run: assembled(next, new, other, declined, records),
         entry: Entry::Asked(reply),
-        bill: validator::Session::TYPES,
+        bill: validator_rules::Session::TYPES,
     }
 }
 
@@ -181,7 +181,7 @@ fn dispenser_byte(run: Run, store: &mut [u8; 21], b: u8, room: &mut [u8; 16]) ->
     Moved {
         run: assembled(next, asked, other, declined, records),
         entry: Entry::Heard(reply),
-        bill: validator::Session::TYPES,
+        bill: validator_rules::Session::TYPES,
     }
 }
 
@@ -256,7 +256,7 @@ fn commanded(run: Run, code: u8, wide: &mut [u8; 255]) -> Moved
     Moved {
         run: assembled(line, asked, next, declined, records),
         entry: Entry::Nothing,
-        bill: validator::Session::TYPES,
+        bill: validator_rules::Session::TYPES,
     }
 }
 
@@ -298,7 +298,7 @@ impl Findings {
     fn bad(why: Fault, at: u32) -> Findings
         ensures { λ r. ⌜ r ≡ badFindings why at ⌝ }
     {
-        let fresh = dispenser::Session::fresh();
+        let fresh = dispenser_rules::Session::fresh();
         let account = fresh.account;
         Findings {
             account,
@@ -317,8 +317,8 @@ pub fn replay(recording: &[u8]) -> Findings
     if Reader::MOST < recording.len() {
         return Findings::bad(Fault::Long, 0);
     }
-    let dispenser = dispenser::Session::fresh();
-    let validator = validator::Session::fresh();
+    let dispenser = dispenser_rules::Session::fresh();
+    let validator = validator_rules::Session::fresh();
     let line = dispenser.line;
     let asked = dispenser.asked;
     let other = validator.line;
@@ -353,7 +353,7 @@ pub fn replay(recording: &[u8]) -> Findings
                 let books = booked(account, asked, entry);
                 account = books;
                 let bill = moved.bill;
-                if bill < validator::Session::TYPES {
+                if bill < validator_rules::Session::TYPES {
                     let counts = validator::booked(bills, bill);
                     bills = counts;
                 }

@@ -9,19 +9,19 @@ use lib.ListN.{length, getD, set, length-append, length-set}
 use Rattle.numbers.specs.Rules.{under, same}
 use Rattle.numbers.specs.Promises.{Bytes}
 use Rattle.numbers.proofs.Rules.{by-cases}
-use Rattle.exchange.specs.Machine.{Bounded}
-use Rattle.dispenser.specs.Calls.{run as ran}
-use Rattle.dispenser.specs.Session.{freshSession}
-use Rattle.exchange.specs.declared.notes.Sums.{Sums}
-use Rattle.dispenser.specs.declared.account.Account.{Account}
-use Rattle.dispenser.specs.declared.session.Session.{Session}
-use Rattle.dispenser.proofs.Demand3.{never-cut}
+use Rattle.exchange_rules.specs.Machine.{Bounded}
+use Rattle.dispenser_rules.specs.Calls.{run as ran}
+use Rattle.dispenser_rules.specs.Session.{freshSession}
+use Rattle.exchange_rules.specs.declared.notes.Sums.{Sums}
+use Rattle.dispenser_rules.specs.declared.account.Account.{Account}
+use Rattle.dispenser_rules.specs.declared.session.Session.{Session}
+use Rattle.dispenser_rules.proofs.Demand3.{never-cut}
 use Rattle.dispenser_frame.specs.declared.answer.Cassette.the-variants.{Upper, Lower}
-use Rattle.validator.specs.Limits.{types}
-use Rattle.validator.specs.Bills.{bills, bookedBy, plus}
-use Rattle.validator.specs.Session.{freshSession as freshToo, sessionRequest as requestToo, sessionByte as byteToo, sessionTick as tickToo}
-use Rattle.validator.specs.declared.bills.Bills.{Bills}
-use Rattle.validator.proofs.Agreeing.{kept-by-history}
+use Rattle.validator_rules.specs.Limits.{types}
+use Rattle.validator_rules.specs.Bills.{bills, bookedBy, plus}
+use Rattle.validator_rules.specs.Session.{freshSession as freshToo, sessionRequest as requestToo, sessionByte as byteToo, sessionTick as tickToo}
+use Rattle.validator_rules.specs.declared.bills.Bills.{Bills}
+use Rattle.validator_rules.proofs.Agreeing.{kept-by-history}
 use Rattle.recording.specs.Record.{mostBytes, faultNumber, laid}
 use Rattle.recording.specs.Reading.{Reading, records, bad, readRecording}
 use Rattle.recording.specs.declared.Fault.{Fault}

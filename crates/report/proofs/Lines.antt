@@ -11,7 +11,7 @@ use Rattle.numbers.specs.Decimal.{decimal}
 use Rattle.numbers.proofs.Decimal.{length-decimal, width-least}
 use Rattle.report.specs.Text.{Adds}
 use Rattle.report.specs.Report.{field, line, lines, typeLine, typeLines}
-use Rattle.validator.specs.declared.bills.Bills.{Bills}
+use Rattle.validator_rules.specs.declared.bills.Bills.{Bills}
 use Rattle.report.proofs.Adding.{adds-then, adds-none}
 
 pub lines-none : lines [] ≡ []

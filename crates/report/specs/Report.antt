@@ -5,12 +5,12 @@ use mathlib.Core.Bool.{cond}
 use mathlib.Core.List.{List, [], _∷_, _++_}
 use lib.Dec.{eqb}
 use Rattle.numbers.specs.Decimal.{decimal}
-use Rattle.exchange.specs.declared.notes.Sums.{Sums}
-use Rattle.dispenser.specs.declared.account.Account.{Account}
+use Rattle.exchange_rules.specs.declared.notes.Sums.{Sums}
+use Rattle.dispenser_rules.specs.declared.account.Account.{Account}
 use Rattle.recording.specs.Record.{faultNumber}
 use Rattle.recording.specs.declared.Fault.{Fault}
 use Rattle.report.specs.Text.{bytesOf}
-use Rattle.validator.specs.declared.bills.Bills.{Bills}
+use Rattle.validator_rules.specs.declared.bills.Bills.{Bills}
 use Rattle.grading.specs.Replay.{replayOf}
 use Rattle.grading.specs.declared.desk.Ending.{Ending}
 use Rattle.grading.specs.declared.desk.Ending.the-variants.{Good, Bad}

@@ -8,8 +8,8 @@ ghost use Rattle.numbers.specs.Decimal.{decimal};
 ghost use Rattle.numbers.specs.Put.{written, writing};
 ghost use Rattle.report.specs.Text.{longest, Adds};
 ghost use Rattle.report.specs.Report.{line, lines, paidPart, unpaidPart, sumsLine, typeLine, typeLines, goodLines, badLine, reportText, reportOf};
-use dispenser::Account;
-use exchange::Sums;
+use dispenser_rules::Account;
+use exchange_rules::Sums;
 use grading::Ending;
 use grading::Findings;
 use grading::replay;
@@ -17,7 +17,7 @@ use numbers::Put;
 use numbers::Refusal;
 use numbers::write_decimal;
 use recording::Fault;
-use validator::Bills;
+use validator_rules::Bills;
 
 // No report is longer: two lines of 146 bytes for the cassettes, 20 for those declined, 25 for each of 24 types, and 19 for the records.
 pub const LONGEST: usize = 931;

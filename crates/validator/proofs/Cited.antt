@@ -5,18 +5,18 @@ use mathlib.Core.Path.{_≡_, refl}
 use mathlib.Core.List.{List}
 use denote.Ref.{now}
 use Rattle.numbers.proofs.Tied.{Is}
-use Rattle.validator.specs.Bills.{bookedBy}
-use Rattle.validator.specs.Session.{stepAfter, lentAfter, after, requestStep, byteStep, tickStep, freshSession, sessionByte}
-use Rattle.validator.specs.Calls.{request, byte, tick, called}
-use Rattle.validator.specs.declared.session.Session.{Session}
-use Rattle.validator.proofs.session.Session.fresh.Kinds as fresh-kinds
-use Rattle.validator.proofs.session.Session.fresh.Reads as fresh-reads
-use Rattle.validator.proofs.session.Session.request.Kinds as request-kinds
-use Rattle.validator.proofs.session.Session.request.Reads as request-reads
-use Rattle.validator.proofs.session.Session.byte.Kinds as byte-kinds
-use Rattle.validator.proofs.session.Session.byte.Reads as byte-reads
-use Rattle.validator.proofs.session.Session.tick.Kinds as tick-kinds
-use Rattle.validator.proofs.session.Session.tick.Reads as tick-reads
+use Rattle.validator_rules.specs.Bills.{bookedBy}
+use Rattle.validator_rules.specs.Session.{stepAfter, lentAfter, after, requestStep, byteStep, tickStep, freshSession, sessionByte}
+use Rattle.validator_rules.specs.Calls.{request, byte, tick, called}
+use Rattle.validator_rules.specs.declared.session.Session.{Session}
+use Rattle.validator_rules.proofs.session.Session.fresh.Kinds as fresh-kinds
+use Rattle.validator_rules.proofs.session.Session.fresh.Reads as fresh-reads
+use Rattle.validator.proofs.session.request.Kinds as request-kinds
+use Rattle.validator.proofs.session.request.Reads as request-reads
+use Rattle.validator.proofs.session.byte.Kinds as byte-kinds
+use Rattle.validator.proofs.session.byte.Reads as byte-reads
+use Rattle.validator.proofs.session.tick.Kinds as tick-kinds
+use Rattle.validator.proofs.session.tick.Reads as tick-reads
 use Rattle.validator.proofs.session.step_request.Kinds as step-request-kinds
 use Rattle.validator.proofs.session.step_request.Reads as step-request-reads
 use Rattle.validator.proofs.session.step_byte.Kinds as step-byte-kinds

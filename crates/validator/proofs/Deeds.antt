@@ -7,11 +7,11 @@ use types.Run.{OneOf, miss}
 use Rattle.ccnet_frame.specs.declared.class.Class.{Class}
 use Rattle.ccnet_frame.specs.declared.class.Class.the-variants.{Ack, Nak, Illegal, State, Busy, Rejecting, Failing, Escrow, Stacked, Returned, Unknown}
 use Rattle.ccnet_frame.proofs.class.Class.{the-type as class-type}
-use Rattle.validator.specs.Session.{acted, byteActed, classStep, answeredStep}
-use Rattle.validator.specs.declared.line.Line.{Line}
-use Rattle.validator.specs.declared.line.Todo.{Todo}
-use Rattle.validator.specs.declared.line.Todo.the-variants.{Nothing, Keep, Judge, Damage, Silence}
-use Rattle.validator.proofs.line.Todo.{the-type}
+use Rattle.validator_rules.specs.Session.{acted, byteActed, classStep, answeredStep}
+use Rattle.validator_rules.specs.declared.line.Line.{Line}
+use Rattle.validator_rules.specs.declared.line.Todo.{Todo}
+use Rattle.validator_rules.specs.declared.line.Todo.the-variants.{Nothing, Keep, Judge, Damage, Silence}
+use Rattle.validator_rules.proofs.line.Todo.{the-type}
 
 -- every deed but keeping and judging is the same for a byte
 pub other-deed : (t : Todo) → OneOf (0 ∷ 3 ∷ 4 ∷ []) (tagOf the-type t) → (l : Line) (want : ℕ) (store : List ℕ) (at b : ℕ) (r : List ℕ)

@@ -1,10 +1,4 @@
--- The laws of `validator`.
+-- The laws of `validator`: what its functions' proofs share, and that no contract leaves a choice.
 pub mod Deeds
-pub mod Sending
-pub mod Reading
-pub mod Exact
 pub mod Tied
-pub mod Past
-pub mod Booking
-pub mod Agreeing
 pub mod Cited

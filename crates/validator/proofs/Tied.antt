@@ -5,10 +5,10 @@ use mathlib.Core.Path.{ap}
 use mathlib.Core.List.{List}
 use denote.Ref.{now}
 use Rattle.numbers.proofs.Tied.{Tied, tied}
-use Rattle.validator.specs.declared.session.Step.{Step}
-use Rattle.validator.specs.declared.session.Outcome.{Outcome}
-use Rattle.validator.proofs.session.Session.fresh.Kinds as fresh
-use Rattle.validator.proofs.session.Session.fresh.Reads as fresh-reads
+use Rattle.validator_rules.specs.declared.session.Step.{Step}
+use Rattle.validator_rules.specs.declared.session.Outcome.{Outcome}
+use Rattle.validator_rules.proofs.session.Session.fresh.Kinds as fresh
+use Rattle.validator_rules.proofs.session.Session.fresh.Reads as fresh-reads
 use Rattle.validator.proofs.bills.booked.Kinds as booked
 use Rattle.validator.proofs.bills.booked.Reads as booked-reads
 use Rattle.validator.proofs.session.step_byte.Kinds as step-byte
@@ -17,12 +17,12 @@ use Rattle.validator.proofs.session.step_tick.Kinds as step-tick
 use Rattle.validator.proofs.session.step_tick.Reads as step-tick-reads
 use Rattle.validator.proofs.session.step_request.Kinds as step-request
 use Rattle.validator.proofs.session.step_request.Reads as step-request-reads
-use Rattle.validator.proofs.session.Session.byte.Kinds as byte
-use Rattle.validator.proofs.session.Session.byte.Reads as byte-reads
-use Rattle.validator.proofs.session.Session.tick.Kinds as tick
-use Rattle.validator.proofs.session.Session.tick.Reads as tick-reads
-use Rattle.validator.proofs.session.Session.request.Kinds as request
-use Rattle.validator.proofs.session.Session.request.Reads as request-reads
+use Rattle.validator.proofs.session.byte.Kinds as byte
+use Rattle.validator.proofs.session.byte.Reads as byte-reads
+use Rattle.validator.proofs.session.tick.Kinds as tick
+use Rattle.validator.proofs.session.tick.Reads as tick-reads
+use Rattle.validator.proofs.session.request.Kinds as request
+use Rattle.validator.proofs.session.request.Reads as request-reads
 
 pub fresh-tied : Tied fresh.ps fresh.r fresh-reads.Post (λ κs x e. x)
 fresh-tied = tied fresh.ps fresh.r fresh-reads.Post (λ κs x e. x) _ (λ κs a x e p. p)

@@ -4,12 +4,14 @@ ghost use mathlib.Core.List.{_∷_};
 ghost use Prim.Native.Nat.{_≤_};
 ghost use lib.ListN.{length, set, take};
 ghost use Rattle.ccnet_frame.specs.Frame.{frame};
-ghost use Rattle.validator.specs.Bills.{stackedType, isPollAnswer, credited, remembered};
-ghost use Rattle.validator.specs.Session.{isCommand, ack, nak, sent, sending, zeros, found, stepped, refusedStep, stepAfter, lentAfter, after, damagedStep, answeredStep, classStep, judgeStep, acted, byteStep, tickStep, requestStep, freshSession, sessionRequest, sessionByte, sessionTick};
-use crate::bills::Bills;
+ghost use Rattle.validator_rules.specs.Bills.{stackedType, isPollAnswer, credited, remembered};
+ghost use Rattle.validator_rules.specs.Session.{isCommand, ack, nak, sent, sending, zeros, found, stepped, refusedStep, stepAfter, lentAfter, after, damagedStep, answeredStep, classStep, judgeStep, acted, byteStep, tickStep, requestStep, sessionRequest, sessionByte, sessionTick};
 use crate::bills::booked;
-use crate::line::Line;
-use crate::line::Todo;
+use crate::line::heard;
+use crate::line::is_open;
+use crate::line::opened;
+use crate::line::passed;
+use crate::line::remembers;
 use ccnet_frame::Class;
 use ccnet_frame::body;
 use ccnet_frame::classify;
@@ -18,54 +20,14 @@ use ccnet_frame::write_command;
 use ccnet_frame::write_nak;
 use ledger::Declined;
 use numbers::Put;
-
-// How a call closed the open command, if it did.
-pub enum Closing {
-    Nothing,
-    // By ACK.
-    Acknowledged,
-    // By NAK.
-    Refused,
-    // As an illegal command.
-    Illegal,
-    // With what the answer's body says.
-    Answered(Class),
-    Damaged,
-    Silent,
-}
-
-// What a call answers: why it was declined, or how many bytes it put at the room's start and which closing it made.
-pub enum Reply {
-    Refused(Declined),
-    Done { put: usize, closing: Closing },
-}
-
-// What a step leaves.
-pub struct Step {
-    pub line: Line,
-    // The type of the bill that it credits; none, that is 24, where it credits none.
-    pub bill: usize,
-    pub reply: Reply,
-}
-
-// The session: the line, the bills of each type and the gathering store.
-pub struct Session {
-    pub line: Line,
-    pub bills: [Bills; 24],
-    pub store: [u8; 255],
-}
-
-// What a call by value leaves.
-pub struct Outcome {
-    pub session: Session,
-    pub reply: Reply,
-}
-
-// A gathered frame is bad, or good with what its body says.
-enum Found {
-    Bad,
-    Good(Class),
-}
+use validator_rules::Closing;
+use validator_rules::Found;
+use validator_rules::Line;
+use validator_rules::Outcome;
+use validator_rules::Reply;
+use validator_rules::Session;
+use validator_rules::Step;
+use validator_rules::Todo;
 
 // The commands (003), and how many data bytes belong to ENABLE BILL TYPES.
 const RESET: u8 = 0x30;
@@ -273,7 +235,7 @@ fn answered(line: Line, class: Class, store: &mut [u8; 255], room: &mut [u8]) ->
     clear(store);
     let n = send_ack(room);
     let bill = credit(line.code, line.last, class);
-    let next = line.remembers(memory(line.code, line.last, class));
+    let next = remembers(line, memory(line.code, line.last, class));
     Step {
         line: next,
         bill,
@@ -352,7 +314,7 @@ pub fn step_byte(line: Line, store: &mut [u8; 255], b: u8, room: &mut [u8]) -> S
     }
     let at = line.got;
     let want = line.want;
-    let turn = line.heard(b);
+    let turn = heard(line, b);
     let next = turn.line;
     let todo = turn.todo;
     match todo {
@@ -381,7 +343,7 @@ pub fn step_tick(line: Line, store: &mut [u8; 255], ms: u32, room: &mut [u8]) ->
     if Session::TICK < ms {
         return not_done(line, Declined::Tick);
     }
-    let turn = line.passed(ms as u64);
+    let turn = passed(line, ms as u64);
     let next = turn.line;
     let todo = turn.todo;
     act(next, todo, store, room)
@@ -397,7 +359,7 @@ pub fn step_request(line: Line, code: u8, given: &[u8], room: &mut [u8]) -> Step
     if !is_command(code, given.len()) {
         return not_done(line, Declined::Range);
     }
-    if line.is_open() {
+    if is_open(line) {
         return not_done(line, Declined::Open);
     }
     if 0 < line.left {
@@ -407,100 +369,70 @@ pub fn step_request(line: Line, code: u8, given: &[u8], room: &mut [u8]) -> Step
         return not_done(line, Declined::Spent);
     }
     let n = send_command(code, given, room);
-    let next = line.opened(code as u64, line.accepted + 1);
+    let next = opened(line, code as u64, line.accepted + 1);
     done(next, n, Closing::Nothing)
 }
 
-impl Session {
-    // Waits, in milliseconds, and limits: document 01, "The validator session".
-    pub const QUIET: u64 = 20;
-
-    pub const START: u64 = 10;
-
-    pub const FRAME: u64 = 400;
-
-    pub const COMMANDS: u64 = 1_000_000;
-
-    pub const ROOM: usize = 255;
-
-    pub const STORE: usize = 255;
-
-    pub const TYPES: usize = 24;
-
-    pub const TICK: u32 = 1_000;
-
-    // No bills, nothing open, zero quiet time, nothing gathered, nothing remembered.
-    pub fn fresh() -> Session
-        ensures { λ r. ⌜ r ≡ freshSession ⌝ }
-    {
-        Session {
-            line: Line::fresh(),
-            bills: [Bills(0); 24],
-            store: [0; 255],
-        }
+// A request: a code, and its data (none but for ENABLE BILL TYPES).
+pub fn request(session: Session, code: u8, given: &[u8], room: &mut [u8]) -> Outcome
+    ensures { λ r. ⌜ after r (now (room .exit)) ≡ sessionRequest session code (now (given .entry)) (now (room .entry)) ⌝ }
+{
+    let line = session.line;
+    let bills = session.bills;
+    let store = session.store;
+    let step = step_request(line, code, given, room);
+    let next = step.line;
+    let reply = step.reply;
+    Outcome {
+        session: Session {
+            line: next,
+            bills,
+            store,
+        },
+        reply,
     }
+}
 
-    // A request: a code, and its data (none but for ENABLE BILL TYPES).
-    pub fn request(self, code: u8, given: &[u8], room: &mut [u8]) -> Outcome
-        ensures { λ r. ⌜ after r (now (room .exit)) ≡ sessionRequest self code (now (given .entry)) (now (room .entry)) ⌝ }
-    {
-        let line = self.line;
-        let bills = self.bills;
-        let store = self.store;
-        let step = step_request(line, code, given, room);
-        let next = step.line;
-        let reply = step.reply;
-        Outcome {
-            session: Session {
-                line: next,
-                bills,
-                store,
-            },
-            reply,
-        }
+// A byte from the validator.
+pub fn byte(session: Session, b: u8, room: &mut [u8]) -> Outcome
+    ensures { λ r. ⌜ after r (now (room .exit)) ≡ sessionByte session b (now (room .entry)) ⌝ }
+{
+    let line = session.line;
+    let bills = session.bills;
+    let mut store = session.store;
+    let step = step_byte(line, &mut store, b, room);
+    let next = step.line;
+    let bill = step.bill;
+    let reply = step.reply;
+    let counts = booked(bills, bill);
+    Outcome {
+        session: Session {
+            line: next,
+            bills: counts,
+            store,
+        },
+        reply,
     }
+}
 
-    // A byte from the validator.
-    pub fn byte(self, b: u8, room: &mut [u8]) -> Outcome
-        ensures { λ r. ⌜ after r (now (room .exit)) ≡ sessionByte self b (now (room .entry)) ⌝ }
-    {
-        let line = self.line;
-        let bills = self.bills;
-        let mut store = self.store;
-        let step = step_byte(line, &mut store, b, room);
-        let next = step.line;
-        let bill = step.bill;
-        let reply = step.reply;
-        let counts = booked(bills, bill);
-        Outcome {
-            session: Session {
-                line: next,
-                bills: counts,
-                store,
-            },
-            reply,
-        }
-    }
-
-    // So many milliseconds pass.
-    pub fn tick(self, ms: u32, room: &mut [u8]) -> Outcome
-        ensures { λ r. ⌜ after r (now (room .exit)) ≡ sessionTick self ms (now (room .entry)) ⌝ }
-    {
-        let line = self.line;
-        let bills = self.bills;
-        let mut store = self.store;
-        let step = step_tick(line, &mut store, ms, room);
-        let next = step.line;
-        let bill = step.bill;
-        let reply = step.reply;
-        let counts = booked(bills, bill);
-        Outcome {
-            session: Session {
-                line: next,
-                bills: counts,
-                store,
-            },
-            reply,
-        }
+// So many milliseconds pass.
+pub fn tick(session: Session, ms: u32, room: &mut [u8]) -> Outcome
+    ensures { λ r. ⌜ after r (now (room .exit)) ≡ sessionTick session ms (now (room .entry)) ⌝ }
+{
+    let line = session.line;
+    let bills = session.bills;
+    let mut store = session.store;
+    let step = step_tick(line, &mut store, ms, room);
+    let next = step.line;
+    let bill = step.bill;
+    let reply = step.reply;
+    let counts = booked(bills, bill);
+    Outcome {
+        session: Session {
+            line: next,
+            bills: counts,
+            store,
+        },
+        reply,
     }
 }

@@ -1,6 +1,6 @@
 -- `grading::desk::commanded` meets its contract. Assumes nothing.
-use Rattle.validator.specs.Session.{sessionRequest}
-use Rattle.validator.specs.Bills.{bookedBy}
+use Rattle.validator_rules.specs.Session.{sessionRequest}
+use Rattle.validator_rules.specs.Bills.{bookedBy}
 use Rattle.grading.specs.Replay.{joined}
 use Rattle.grading.proofs.Steps.{by-request}
 use borrow.Author.Needs.{needs}

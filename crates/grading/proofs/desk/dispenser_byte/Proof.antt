@@ -1,6 +1,6 @@
 -- `grading::desk::dispenser_byte` meets its contract. Assumes nothing.
-use Rattle.dispenser.specs.Session.{sessionByte}
-use Rattle.validator.specs.Bills.{bookedBy}
+use Rattle.dispenser_rules.specs.Session.{sessionByte}
+use Rattle.validator_rules.specs.Bills.{bookedBy}
 use borrow.Author.Needs.{needs}
 use Rattle.grading.proofs.desk.dispenser_byte.Statement.{statement}
 use Rattle.grading.proofs.desk.dispenser_byte.Tie as tie

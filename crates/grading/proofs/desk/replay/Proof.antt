@@ -3,8 +3,8 @@
 use mathlib.Core.Path.{_≡_, _∙_}
 use Prim.Native.Nat.{_-_, _≤_}
 use lib.ListN.{length, drop}
-use Rattle.dispenser.specs.Session.{freshSession}
-use Rattle.validator.specs.Session.{freshSession as freshToo}
+use Rattle.dispenser_rules.specs.Session.{freshSession}
+use Rattle.validator_rules.specs.Session.{freshSession as freshToo}
 use Rattle.recording.specs.Reading.{freshReader, readingFrom}
 use Rattle.grading.specs.Replay.{freshDesk, replayed, replayOf, joined}
 use Rattle.grading.proofs.Loops.{gives, further, breaks, ends, counts, joins, no-bill, long, short}

@@ -1,6 +1,6 @@
 -- `grading::desk::requested` meets its contract. Assumes nothing.
-use Rattle.dispenser.specs.Session.{sessionRequest}
-use Rattle.validator.specs.Bills.{bookedBy}
+use Rattle.dispenser_rules.specs.Session.{sessionRequest}
+use Rattle.validator_rules.specs.Bills.{bookedBy}
 use borrow.Author.Needs.{needs}
 use Rattle.grading.proofs.desk.requested.Statement.{statement}
 use Rattle.grading.proofs.desk.requested.Tie as tie

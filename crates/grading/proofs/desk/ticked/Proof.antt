@@ -1,6 +1,6 @@
 -- `grading::desk::ticked` meets its contract. Assumes nothing.
-use Rattle.dispenser.specs.Session.{sessionTick}
-use Rattle.validator.specs.Session.{sessionTick as tickToo}
+use Rattle.dispenser_rules.specs.Session.{sessionTick}
+use Rattle.validator_rules.specs.Session.{sessionTick as tickToo}
 use Rattle.grading.specs.Replay.{joined}
 use Rattle.grading.proofs.Steps.{by-tick}
 use borrow.Author.Needs.{needs}

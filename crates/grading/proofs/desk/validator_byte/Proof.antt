@@ -1,5 +1,5 @@
 -- `grading::desk::validator_byte` meets its contract. Assumes nothing.
-use Rattle.validator.specs.Session.{sessionByte}
+use Rattle.validator_rules.specs.Session.{sessionByte}
 use Rattle.grading.specs.Replay.{joined}
 use Rattle.grading.proofs.Steps.{by-byte}
 use borrow.Author.Needs.{needs}

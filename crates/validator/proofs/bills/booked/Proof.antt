@@ -1,6 +1,6 @@
 -- `validator::bills::booked` meets its contract. Assumes nothing.
 use borrow.Author.Tests.{lt-ltb, le-ltb}
-use Rattle.validator.specs.Bills.{bookedBy}
+use Rattle.validator_rules.specs.Bills.{bookedBy}
 use borrow.Author.Needs.{needs}
 use Rattle.validator.proofs.bills.booked.Statement.{statement}
 use Rattle.validator.proofs.bills.booked.Tie as tie

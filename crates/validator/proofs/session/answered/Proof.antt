@@ -1,6 +1,6 @@
 -- `validator::session::answered` meets its contract. Assumes nothing.
 use mathlib.Core.Path.{ap}
-use Rattle.validator.specs.Session.{Sent, answeredStep}
+use Rattle.validator_rules.specs.Session.{Sent, answeredStep}
 use borrow.Author.Needs.{needs}
 use Rattle.validator.proofs.session.answered.Statement.{statement}
 use Rattle.validator.proofs.session.answered.Tie as tie

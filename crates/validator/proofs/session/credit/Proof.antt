@@ -1,6 +1,6 @@
 -- `validator::session::credit` meets its contract. Assumes nothing.
 use borrow.Author.Tests.{eq-eqb, ne-eqb}
-use Rattle.validator.specs.Bills.{credited}
+use Rattle.validator_rules.specs.Bills.{credited}
 use borrow.Author.Needs.{needs}
 use Rattle.validator.proofs.session.credit.Statement.{statement}
 use Rattle.validator.proofs.session.credit.Tie as tie

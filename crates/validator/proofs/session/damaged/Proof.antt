@@ -1,6 +1,6 @@
 -- `validator::session::damaged` meets its contract. Assumes nothing.
 use mathlib.Core.Path.{ap}
-use Rattle.validator.specs.Session.{Sent, damagedStep}
+use Rattle.validator_rules.specs.Session.{Sent, damagedStep}
 use borrow.Author.Needs.{needs}
 use Rattle.validator.proofs.session.damaged.Statement.{statement}
 use Rattle.validator.proofs.session.damaged.Tie as tie

@@ -1,7 +1,7 @@
 -- `validator::session::gathered` meets its contract. Assumes nothing.
 use mathlib.Core.Path.{sym, ap, _∙_}
 use lib.Seq.{length-take-le, take-all}
-use Rattle.validator.specs.Session.{found}
+use Rattle.validator_rules.specs.Session.{found}
 use native.Mathlib.Omega.{arith}
 use borrow.Author.Needs.{needs}
 use Rattle.validator.proofs.session.gathered.Statement.{statement}

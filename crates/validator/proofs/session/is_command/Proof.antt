@@ -1,7 +1,7 @@
 -- `validator::session::is_command` meets its contract, code by code. Assumes nothing.
 use Rattle.numbers.proofs.Rules.{tests}
-use Rattle.validator.specs.Session.{isCommand}
-use Rattle.validator.proofs.Sending.{or-false}
+use Rattle.validator_rules.specs.Session.{isCommand}
+use Rattle.validator_rules.proofs.Sending.{or-false}
 use Rattle.validator.proofs.session.is_command.Statement.{statement}
 use Rattle.validator.proofs.session.is_command.Tie as tie
 

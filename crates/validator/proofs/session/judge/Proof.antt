@@ -1,6 +1,6 @@
 -- `validator::session::judge` meets its contract. Assumes nothing.
 use mathlib.Core.Path.{sym, _∙_}
-use Rattle.validator.specs.Session.{judgeStep}
+use Rattle.validator_rules.specs.Session.{judgeStep}
 use borrow.Author.Needs.{needs}
 use Rattle.validator.proofs.session.judge.Statement.{statement}
 use Rattle.validator.proofs.session.judge.Tie as tie

@@ -1,6 +1,6 @@
 -- `validator::session::memory` meets its contract. Assumes nothing.
 use borrow.Author.Tests.{eq-eqb, ne-eqb}
-use Rattle.validator.specs.Bills.{remembered}
+use Rattle.validator_rules.specs.Bills.{remembered}
 use borrow.Author.Needs.{needs}
 use Rattle.validator.proofs.session.memory.Statement.{statement}
 use Rattle.validator.proofs.session.memory.Tie as tie

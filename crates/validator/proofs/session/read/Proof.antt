@@ -1,5 +1,5 @@
 -- `validator::session::read` meets its contract: a good body is never empty, and that of a refused frame always is. Assumes nothing.
-use Rattle.validator.proofs.Reading.{read-bad, read-good}
+use Rattle.validator_rules.proofs.Reading.{read-bad, read-good}
 use native.Mathlib.Omega.{arith}
 use borrow.Author.Needs.{needs}
 use Rattle.validator.proofs.session.read.Statement.{statement}

@@ -1,5 +1,5 @@
 -- `validator::session::send_ack` meets its contract: the room holds it, so that it is never refused. Assumes nothing.
-use Rattle.validator.proofs.Sending.{short-sent, short-not-refused}
+use Rattle.validator_rules.proofs.Sending.{short-sent, short-not-refused}
 use borrow.Author.Needs.{needs}
 use Rattle.validator.proofs.session.send_ack.Statement.{statement}
 use Rattle.validator.proofs.session.send_ack.Tie as tie

@@ -1,5 +1,5 @@
 -- `validator::session::send_command` meets its contract: the room holds it, so that it is never refused. Assumes nothing.
-use Rattle.validator.proofs.Sending.{command-sent, command-not-refused}
+use Rattle.validator_rules.proofs.Sending.{command-sent, command-not-refused}
 use borrow.Author.Needs.{needs}
 use Rattle.validator.proofs.session.send_command.Statement.{statement}
 use Rattle.validator.proofs.session.send_command.Tie as tie

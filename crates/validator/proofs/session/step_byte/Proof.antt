@@ -1,7 +1,7 @@
 -- `validator::session::step_byte` meets its contract, deed by deed. Assumes nothing.
 use mathlib.Core.Path.{sym, _∙_}
 use borrow.Author.Tests.{lt-ltb, le-ltb}
-use Rattle.validator.specs.Session.{byteStep, byteRefusals}
+use Rattle.validator_rules.specs.Session.{byteStep, byteRefusals}
 use Rattle.validator.proofs.Deeds.{other-deed}
 use borrow.Author.Needs.{needs}
 use Rattle.validator.proofs.session.step_byte.Statement.{statement}

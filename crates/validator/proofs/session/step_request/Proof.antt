@@ -2,8 +2,8 @@
 use mathlib.Core.Path.{_≡_, sym, ap, _∙_}
 use mathlib.Core.Bool.{false, not}
 use borrow.Author.Tests.{lt-ltb, le-ltb, le-leb, lt-leb, not-false}
-use Rattle.validator.specs.Session.{Sent, requestStep, requestRefusals}
-use Rattle.validator.proofs.Sending.{command-size}
+use Rattle.validator_rules.specs.Session.{Sent, requestStep, requestRefusals}
+use Rattle.validator_rules.proofs.Sending.{command-size}
 use native.Mathlib.Omega.{arith}
 use borrow.Author.Needs.{needs}
 use Rattle.validator.proofs.session.step_request.Statement.{statement}

@@ -1,6 +1,6 @@
 -- `validator::session::step_tick` meets its contract. Assumes nothing.
 use borrow.Author.Tests.{lt-ltb, le-ltb, le-leb, lt-leb}
-use Rattle.validator.specs.Session.{tickStep, tickRefusals}
+use Rattle.validator_rules.specs.Session.{tickStep, tickRefusals}
 use borrow.Author.Needs.{needs}
 use Rattle.validator.proofs.session.step_tick.Statement.{statement}
 use Rattle.validator.proofs.session.step_tick.Tie as tie

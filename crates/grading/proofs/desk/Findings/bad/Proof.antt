@@ -1,5 +1,5 @@
 -- `grading::desk::Findings::bad` meets its contract. Assumes nothing.
-use Rattle.dispenser.specs.Session.{freshSession}
+use Rattle.dispenser_rules.specs.Session.{freshSession}
 use borrow.Author.Needs.{needs}
 use Rattle.grading.proofs.desk.Findings.bad.Statement.{statement}
 use Rattle.grading.proofs.desk.Findings.bad.Tie as tie

@@ -1,0 +1,6 @@
+pub mod Exact
+pub mod Ranges
+pub mod Shown
+pub mod Same
+pub mod Demand3
+pub mod Tied

@@ -1,0 +1,239 @@
+-- The dispenser session, call by call (01, "The dispenser session" and "Numbers a call can answer").
+use Prim.Native.Nat.{ℕ, _+_}
+use mathlib.Core.Bool.{cond}
+use mathlib.Core.List.{List, [], _∷_}
+use lib.Dec.{eqb}
+use lib.ListN.{length, take, set, replicate}
+use Rattle.numbers.specs.Rules.{Condition, Rule, says, under, atMost, within, isnt, judged, _gives_}
+use Rattle.numbers.specs.declared.Put.{Put}
+use Rattle.numbers.specs.declared.Put.the-variants.{Bytes, Refused as NotPut}
+use Rattle.dispenser_frame.specs.Table.{answerLength}
+use Rattle.dispenser_frame.specs.Command.{sendable, writeCommand}
+use Rattle.dispenser_frame.specs.Answer.{answerCode, readAnswer}
+use Rattle.dispenser_frame.specs.declared.answer.AnswerRead.{AnswerRead}
+use Rattle.dispenser_frame.specs.declared.answer.AnswerRead.the-variants.{Read, Refused as NotRead}
+use Rattle.exchange_rules.specs.Limits.{quiet, leastRoom, commandLimit, longestTick}
+use Rattle.exchange_rules.specs.Exchange.{freshLine, opened, closed, isOpen, heard, badFrame, passed}
+use Rattle.dispenser_rules.specs.Account.{freshAccount, accountOpened, accountAnswered, accountRefused, accountUnknown}
+use Rattle.dispenser_rules.specs.declared.account.Account.{Account}
+use Rattle.exchange_rules.specs.declared.line.Phase.{Phase}
+use Rattle.exchange_rules.specs.declared.line.Line.{Line}
+use Rattle.exchange_rules.specs.declared.line.Todo.{Todo}
+use Rattle.exchange_rules.specs.declared.line.Todo.the-variants.{Nothing as Rest, Keep, Judge, HandOver, Nak, NakAndLose, Refuse, Lose}
+use Rattle.ledger.specs.declared.Declined.{Declined}
+use Rattle.ledger.specs.declared.Declined.the-variants.{Room, Range, Open, Unquiet, Spent, Tick}
+use Rattle.dispenser_rules.specs.declared.session.Asked.{Asked}
+use Rattle.dispenser_rules.specs.declared.session.Closing.{Closing}
+use Rattle.dispenser_rules.specs.declared.session.Closing.the-variants.{Nothing, Answered, Refused as GaveUp, Unknown}
+use Rattle.dispenser_rules.specs.declared.session.Reply.{Reply}
+use Rattle.dispenser_rules.specs.declared.session.Reply.the-variants.{Refused, Done}
+use Rattle.dispenser_rules.specs.declared.session.Step.{Step}
+use Rattle.dispenser_rules.specs.declared.session.Opening.{Opening}
+use Rattle.dispenser_rules.specs.declared.session.Session.{Session}
+use Rattle.dispenser_rules.specs.declared.session.Outcome.{Outcome}
+
+-- ---- what a call leaves
+
+abbrev pub stepped : Line → ℕ → Closing → Step
+stepped l n c = record { line = l; reply = Done n c }
+
+abbrev pub refusedStep : Line → Declined → Step
+refusedStep l why = record { line = l; reply = Refused why }
+
+abbrev pub refusedOpening : Line → Asked → Declined → Opening
+refusedOpening l a why = record { line = l; asked = a; reply = Refused why }
+
+-- a step, with every byte of the room afterwards
+pub record StepAfter : Type 0 where
+  pub line : Line
+  pub reply : Reply
+  pub room : List ℕ
+
+abbrev pub stepAfter : Step → List ℕ → StepAfter
+stepAfter s r = record { line = s .line; reply = s .reply; room = r }
+
+abbrev pub doneAfter : Line → ℕ → Closing → List ℕ → StepAfter
+doneAfter l n c r = record { line = l; reply = Done n c; room = r }
+
+-- and every byte of the gathering store
+pub record ByteAfter : Type 0 where
+  pub step : StepAfter
+  pub store : List ℕ
+
+abbrev pub byteAfter : Step → List ℕ → List ℕ → ByteAfter
+byteAfter s store r = record { step = stepAfter s r; store = store }
+
+pub record OpeningAfter : Type 0 where
+  pub line : Line
+  pub asked : Asked
+  pub reply : Reply
+  pub room : List ℕ
+
+abbrev pub openingAfter : Opening → List ℕ → OpeningAfter
+openingAfter o r = record { line = o .line; asked = o .asked; reply = o .reply; room = r }
+
+-- the session, what the call answers, and every byte of the room
+pub record After : Type 0 where
+  pub session : Session
+  pub reply : Reply
+  pub room : List ℕ
+
+abbrev pub after : Outcome → List ℕ → After
+after o r = record { session = o .session; reply = o .reply; room = r }
+
+-- ---- what is sent
+
+-- bytes handed over, with the room as it is left
+pub record Handed : Type 0 where
+  pub put : ℕ
+  pub room : List ℕ
+
+abbrev pub handed : ℕ → List ℕ → Handed
+handed n r = record { put = n; room = r }
+
+abbrev pub bytesPut : Put → ℕ
+bytesPut (Bytes n) = n
+bytesPut (NotPut why) = 0
+
+-- the command's frame at the room's start
+unfoldable pub handOver : Asked → List ℕ → Handed
+handOver a r =
+    let w = writeCommand (a .code) (a .upper) (a .lower) r in
+    handed (bytesPut (w .answer)) (w .room)
+
+-- what the exchange says is to be done, but for bytes of an answer
+abbrev pub acted : Todo → Line → Asked → List ℕ → StepAfter
+acted Rest l a r = doneAfter l 0 Nothing r
+acted Keep l a r = doneAfter l 0 Nothing r
+acted Judge l a r = doneAfter l 0 Nothing r
+acted HandOver l a r = doneAfter l (handOver a r .put) Nothing (handOver a r .room)
+acted Nak l a r = doneAfter l 1 Nothing (set r 0 0x15)
+acted NakAndLose l a r = doneAfter l 1 Unknown (set r 0 0x15)
+acted Refuse l a r = doneAfter l 0 GaveUp r
+acted Lose l a r = doneAfter l 0 Unknown r
+
+-- ---- bytes
+
+-- "Any other full frame (bad), or lateness inside one"
+unfoldable pub badStep : Line → Asked → List ℕ → StepAfter
+badStep l a r = acted (badFrame l .todo) (badFrame l .line) a r
+
+-- "Good answer with the code asked: send 06h and close as answered."
+abbrev pub judgedStep : AnswerRead → Line → Asked → List ℕ → StepAfter
+judgedStep (Read answer listed) l a r =
+    cond (eqb (answerCode answer) (a .code)) (doneAfter (closed l quiet) 1 (Answered answer listed) (set r 0 0x06)) (badStep l a r)
+judgedStep (NotRead fault) l a r = badStep l a r
+
+unfoldable pub judgeStep : Line → Asked → List ℕ → List ℕ → StepAfter
+judgeStep l a store r = judgedStep (readAnswer (take (a .want) store)) l a r
+
+-- what the exchange says of a byte b whose place in the store is at
+abbrev pub byteActed : Todo → Line → Asked → List ℕ → ℕ → ℕ → List ℕ → ByteAfter
+byteActed Rest l a store at b r = record { step = acted Rest l a r; store = store }
+byteActed Keep l a store at b r = record { step = doneAfter l 0 Nothing r; store = set store at b }
+byteActed Judge l a store at b r = record { step = judgeStep l a (set store at b) r; store = set store at b }
+byteActed HandOver l a store at b r = record { step = acted HandOver l a r; store = store }
+byteActed Nak l a store at b r = record { step = acted Nak l a r; store = store }
+byteActed NakAndLose l a store at b r = record { step = acted NakAndLose l a r; store = store }
+byteActed Refuse l a store at b r = record { step = acted Refuse l a r; store = store }
+byteActed Lose l a store at b r = record { step = acted Lose l a r; store = store }
+
+-- "received bytes 1"
+unfoldable pub byteRefusals : List ℕ → List (Rule Declined)
+byteRefusals r = under (length r) leastRoom gives Room ∷ []
+
+unfoldable pub byteStep : Line → Asked → List ℕ → ℕ → List ℕ → ByteAfter
+byteStep l a store b r =
+    judged (byteRefusals r) (λ why. byteAfter (refusedStep l why) store r)
+    (byteActed (heard l (a .want) b .todo) (heard l (a .want) b .line) a store (l .got) b r)
+
+-- ---- ticks
+
+-- "ticks 1 and 6"
+unfoldable pub tickRefusals : ℕ → List ℕ → List (Rule Declined)
+tickRefusals ms r = under (length r) leastRoom gives Room ∷ isnt (within 1 longestTick ms) gives Tick ∷ []
+
+unfoldable pub tickStep : Line → Asked → ℕ → List ℕ → StepAfter
+tickStep l a ms r =
+    judged (tickRefusals ms r) (λ why. stepAfter (refusedStep l why) r) (acted (passed l ms .todo) (passed l ms .line) a r)
+
+-- ---- requests
+
+-- "a command is open on this line"
+abbrev pub opens : Phase → Condition
+opens p = says (isOpen p)
+
+-- "Requests can meet 1 to 5": "the lowest that applies is given"
+unfoldable pub requestRefusals : Line → ℕ → ℕ → ℕ → List ℕ → List (Rule Declined)
+requestRefusals l code upper lower r =
+    under (length r) leastRoom gives Room
+    ∷ isnt (sendable code upper lower) gives Range
+    ∷ opens (l .phase) gives Open
+    ∷ under 0 (l .left) gives Unquiet
+    ∷ atMost commandLimit (l .accepted) gives Spent
+    ∷ []
+
+abbrev pub command : ℕ → ℕ → ℕ → Asked
+command code upper lower = record { code = code; upper = upper; lower = lower; want = answerLength code }
+
+-- "Request accepted: the frame is handed over."
+unfoldable pub requestStep : Line → Asked → ℕ → ℕ → ℕ → List ℕ → OpeningAfter
+requestStep l a code upper lower r =
+    let w = handOver (command code upper lower) r in
+    judged (requestRefusals l code upper lower r) (λ why. openingAfter (refusedOpening l a why) r)
+    (record { line = opened (l .accepted + 1); asked = command code upper lower; reply = Done (w .put) Nothing; room = w .room })
+
+-- ---- the account, booked from what a call answered
+
+abbrev pub closedBy : Account → Asked → Closing → Account
+closedBy a c Nothing = a
+closedBy a c (Answered answer listed) = accountAnswered a c answer
+closedBy a c GaveUp = accountRefused a c
+closedBy a c Unknown = accountUnknown a c
+
+abbrev pub bookedBy : Account → Asked → Reply → Account
+bookedBy a c (Refused why) = a
+bookedBy a c (Done n closing) = closedBy a c closing
+
+abbrev pub requestBooked : Account → Asked → Reply → Account
+requestBooked a c (Refused why) = a
+requestBooked a c (Done n closing) = accountOpened a c
+
+-- ---- the session by value
+
+-- "A fresh session has zero sums, no open command and zero quiet time."
+unfoldable pub freshSession : Session
+freshSession =
+    record {
+      line = freshLine;
+      asked = record { code = 0; upper = 0; lower = 0; want = 0 };
+      account = freshAccount;
+      store = replicate 21 0;
+    }
+
+unfoldable pub sessionRequest : Session → ℕ → ℕ → ℕ → List ℕ → After
+sessionRequest s code upper lower r =
+    let w = requestStep (s .line) (s .asked) code upper lower r in
+    record {
+      session = record { line = w .line; asked = w .asked; account = requestBooked (s .account) (w .asked) (w .reply); store = s .store };
+      reply = w .reply;
+      room = w .room;
+    }
+
+unfoldable pub sessionByte : Session → ℕ → List ℕ → After
+sessionByte s b r =
+    let w = byteStep (s .line) (s .asked) (s .store) b r in
+    record {
+      session = record { line = w .step .line; asked = s .asked; account = bookedBy (s .account) (s .asked) (w .step .reply); store = w .store };
+      reply = w .step .reply;
+      room = w .step .room;
+    }
+
+unfoldable pub sessionTick : Session → ℕ → List ℕ → After
+sessionTick s ms r =
+    let w = tickStep (s .line) (s .asked) ms r in
+    record {
+      session = record { line = w .line; asked = s .asked; account = bookedBy (s .account) (s .asked) (w .reply); store = s .store };
+      reply = w .reply;
+      room = w .room;
+    }

@@ -1,0 +1,13 @@
+// The dispenser session of the Model 2000T, as rules: what it holds, what each call leaves, and what is promised of it. Document 01, "The dispenser session" and
+// "The account".
+mod account;
+mod session;
+
+pub use account::Account;
+pub use session::Asked;
+pub use session::Closing;
+pub use session::Opening;
+pub use session::Outcome;
+pub use session::Reply;
+pub use session::Session;
+pub use session::Step;

@@ -1,0 +1,141 @@
+-- Demand 3, and the numbers 3, 4 and 5 of the history, of any session over any lawful unit: once over the cassettes. Assumes nothing.
+use Prim.Native.Nat.{ℕ}
+use mathlib.Core.Path.{_≡_, refl, sym, ap, _∙_, subst}
+use mathlib.Core.Bool.{true}
+use mathlib.Core.List.{List, [], _∷_}
+use native.Mathlib.Omega.{arith}
+use lib.Dec.{lit≤}
+use lib.ListN.{length}
+use Rattle.numbers.specs.Rules.{says, under, atMost, _gives_}
+use Rattle.numbers.proofs.Rules.{Alike}
+use Rattle.ledger.specs.Events.{Event, History}
+use Rattle.ledger.specs.Line.{isOpen as isOpenIn, quietTime, quietNeeded, accepted}
+use Rattle.ledger.specs.Account.{Ending, commands, totals, sums}
+use Rattle.ledger.specs.Sent.{AtMost, Rightly, Demand3}
+use Rattle.ledger.specs.declared.Declined.the-variants.{Open, Unquiet, Spent}
+use Rattle.ledger.proofs.Laws.{balanced}
+use Rattle.ledger.proofs.Follows.{OpenIn, At, follows-few}
+use Rattle.exchange_rules.specs.Limits.{quiet, handOvers, commandLimit}
+use Rattle.exchange_rules.specs.Exchange.{isOpen, freshLine}
+use Rattle.exchange_rules.specs.Sums.{freshSums}
+use Rattle.exchange_rules.specs.Machine.{Model, Lawful, Box, Bounded, Sound, plain, quietAfter, requestRefusals, historyRefusals, Call, request, byte, tick, called, seen, Session, run, historyFrom}
+use Rattle.exchange_rules.specs.declared.line.Phase.{Phase}
+use Rattle.exchange_rules.specs.declared.line.Phase.the-variants.{Idle, First, Start, Inside}
+use Rattle.exchange_rules.proofs.Keeping.{request-sound, heard-sound, passed-sound}
+use Rattle.exchange_rules.proofs.Tracks.{stage, view, rules, Tracks, request-tracks, byte-tracks, tick-tracks, open-pending}
+
+-- ---- a fresh session
+
+pub fresh-sums : Bounded 0 0 freshSums
+fresh-sums =
+    record {
+      asked-most = lit≤ tt;
+      paid-most = lit≤ tt;
+      short-most = lit≤ tt;
+      over-most = lit≤ tt;
+      refused-most = lit≤ tt;
+      unknown-most = lit≤ tt;
+      pending-most = lit≤ tt;
+      rejected-most = lit≤ tt;
+    }
+
+module _ {R X A C : Type 0} (U : Model R X A C) where
+  -- a session is fresh: the line is, every sum is 0, and the store is as long as the longest answer
+  module _ (q : R) (x : A) (store : List ℕ) (zero : (c : C) → U .cassette x c ≡ freshSums) (full : length store ≡ U .longest) where
+    abbrev new : Box R A
+    new = record { line = freshLine; asks = q; account = x; store = store }
+
+    pub new-sound : Sound U new
+    new-sound = record { stands = tt; commands = lit≤ tt; books = λ c. subst (Bounded 0 0) (sym (zero c)) fresh-sums; store = full }
+
+    pub new-tracks : Tracks U new []
+    unfolding commands totals isOpenIn quietTime quietNeeded accepted
+    new-tracks =
+        record {
+          books = λ c. ap plain (zero c);
+          place = record { over = λ c. refl; few = tt; shut = refl; needed = refl; wait = refl };
+          many = refl;
+          rightly = tt;
+        }
+
+  -- ---- a call
+
+  module _ (K : Lawful U) (s : Box R A) (h : History R Ending) (k : Sound U s) (t : Tracks U s h) where
+    called-sound : (c : Call R) → Sound U (called U s c .box)
+    called-sound (request q r) = request-sound U K s k q r
+    called-sound (byte b r) = heard-sound U K s k b r (λ c o. open-pending U K s h k t c o)
+    called-sound (tick ms r) = passed-sound U K s k ms r
+
+    called-tracks : (c : Call R) → Tracks U (called U s c .box) (seen U s c ∷ h)
+    called-tracks (request q r) = request-tracks U K s h k t q r
+    called-tracks (byte b r) = byte-tracks U K s h k t b r
+    called-tracks (tick ms r) = tick-tracks U K s h k t ms r
+
+  -- on a line that follows its history, both say the same of a request
+  pub alike-at : (s : Box R A) (h : History R Ending) (q : R) (r : List ℕ) → Tracks U s h
+      → Alike (requestRefusals U (s .line) q r) (historyRefusals U h q r)
+  unfolding requestRefusals historyRefusals
+  alike-at s h q r t =
+      (refl, (((λ w. w), λ w. w), λ n. (refl, (((λ w. w), λ w. w), λ m. by (s .line .phase) (t .place)))))
+    where
+      spent : Alike (atMost commandLimit (s .line .accepted) gives Spent ∷ []) (atMost commandLimit (accepted h) gives Spent ∷ [])
+      spent = (refl, (((λ w. omega (arith, t .many)), λ w. omega (arith, t .many)), λ n. tt))
+
+      busy : OpenIn (rules U) (view U s) h
+          → Alike (says true gives Open ∷ under 0 (s .line .left) gives Unquiet ∷ atMost commandLimit (s .line .accepted) gives Spent ∷ [])
+          (says (isOpenIn h) gives Open ∷ under (quietTime h) (quietNeeded (quietAfter U) quiet h) gives Unquiet ∷ atMost commandLimit (accepted h) gives Spent ∷ [])
+      busy x = (refl, (((λ w. x .still), λ w. refl), λ n. absurd (n refl)))
+
+      by : (p : Phase) → At (rules U) (stage p) (view U s) h
+          → Alike (says (isOpen p) gives Open ∷ under 0 (s .line .left) gives Unquiet ∷ atMost commandLimit (s .line .accepted) gives Spent ∷ [])
+          (says (isOpenIn h) gives Open ∷ under (quietTime h) (quietNeeded (quietAfter U) quiet h) gives Unquiet ∷ atMost commandLimit (accepted h) gives Spent ∷ [])
+      by Idle x = (
+        refl,
+        (
+          ((λ w. x .shut ∙ w), λ w. sym (x .shut) ∙ w),
+          λ n. (refl, (((λ w. omega (arith, x .wait, x .needed)), λ w. omega (arith, x .wait, x .needed)), λ m. spent)),
+        ),
+      )
+      by First x = busy (x .0)
+      by Start x = busy x
+      by Inside x = busy (x .0)
+
+-- ---- any calls at all
+
+module _ {R X A C S T : Type 0} {U : Model R X A C} (K : Lawful U) (M : Session U S T) where
+  -- what every session keeps
+  pub record Kept (s : S) (h : History R Ending) : Type 0 where
+    pub own : M .keeps s
+    pub sound : Sound U (M .box s)
+    pub tracks : Tracks U (M .box s) h
+
+  next-kept : (s : S) (h : History R Ending) (t : T) → Kept s h → Kept (M .next s t) (M .sees s t ∷ h)
+  next-kept s h t k =
+      record {
+        own = M .kept s t (k .own);
+        sound = subst (Sound U) (sym (M .same s t (k .own) (k .sound))) (called-sound U K (M .box s) h (k .sound) (k .tracks) (M .means s t));
+        tracks = subst (λ (e : Event R Ending). Tracks U (M .box (M .next s t)) (e ∷ h)) (sym (M .told s t (k .own) (k .sound)))
+            (subst (λ (b : Box R A). Tracks U b (seen U (M .box s) (M .means s t) ∷ h)) (sym (M .same s t (k .own) (k .sound)))
+            (called-tracks U K (M .box s) h (k .sound) (k .tracks) (M .means s t)));
+      }
+
+  pub run-kept : (s : S) (h : History R Ending) (ts : List T) → Kept s h → Kept (run M s ts) (historyFrom M s h ts)
+  unfolding run historyFrom
+  run-kept s h [] k = k
+  run-kept s h (t ∷ ts) k = run-kept (M .next s t) (M .sees s t ∷ h) ts (next-kept s h t k)
+
+  -- the theorem: of the session after calls, `ran`, and of their history, `known`
+  pub demand3 : (s : S) → Kept s [] → (ran : List T → S) (known : List T → History R Ending) → ((ts : List T) → run M s ts ≡ ran ts)
+      → ((ts : List T) → historyFrom M s [] ts ≡ known ts)
+      → Demand3 (U .bytes) (U .layout) handOvers (λ (ts : List T) (c : C). plain (U .cassette (M .box (ran ts) .account) c)) known
+  demand3 s k ran known r e =
+      record {
+        account = λ ts c.
+            ap (λ (x : S). plain (U .cassette (M .box x .account) c)) (sym (r ts)) ∙ run-kept s [] ts k .tracks .books c
+            ∙ ap (λ (h : History R Ending). sums (U .bytes) h c) (e ts);
+        balance = λ ts c. balanced (U .bytes) (commands (U .bytes) (known ts)) c;
+        few = λ ts.
+            subst (λ (h : History R Ending). AtMost handOvers (commands (U .bytes) h)) (e ts)
+            (follows-few (rules U) (view U (M .box (run M s ts))) (historyFrom M s [] ts) (run-kept s [] ts k .tracks));
+        rightly = λ ts. subst (Rightly (U .bytes) (U .layout)) (e ts) (run-kept s [] ts k .tracks .rightly);
+      }

@@ -1,0 +1,428 @@
+-- A session over a lawful unit stands, after each call, where the history of the calls says: demand 3 of the steps, once for every unit and any cassettes.
+-- Assumes nothing.
+use Prim.Native.Nat.{ℕ, _+_, _-_, _≤_, _<_}
+use mathlib.Core.Path.{_≡_, refl, sym, ap, _∙_, subst}
+use mathlib.Core.Bool.{true, false}
+use mathlib.Core.List.{List, [], _∷_, _++_, append-assoc, append-nil}
+use mathlib.Core.Logic.{inl, inr}
+use native.Mathlib.Numerals.{add-one}
+use native.Mathlib.Omega.{arith}
+use lib.Dec.{lit≤}
+use lib.ListN.{length, take, set, length-set}
+use lib.Seq.{length-take-le, take-suc-set}
+use borrow.Author.Tests.{lt-ltb}
+use Rattle.numbers.specs.Rules.{under, atMost, same}
+use Rattle.numbers.proofs.Rules.{pick, either-way, certain}
+use Rattle.ledger.specs.Events.{Deed, asks, hears, waits as passes, goes-on, closes, done, History, isFrame, bytes, since}
+use Rattle.ledger.specs.Line.{isOpen as isOpenIn, quietTime, quietNeeded, accepted}
+use Rattle.ledger.specs.Account.{Ending, answered, refused, unknown, Totals, waiting, answered-by, turned-down, in-doubt, lastOf, commands, with-share, totals, sums}
+use Rattle.ledger.specs.Sent.{Sends}
+use Rattle.ledger.proofs.Laws.{last-of, OnLine, since-more}
+use Rattle.ledger.proofs.Follows.{Stage, idle, first, start, inside, View, Rules, OpenIn, IdleIn, At, Follows, declined-follows, open-still, idle-still, still-follows, open-kept, fate-by, again-follows, closes-follows, opened-follows}
+use Rattle.exchange_rules.specs.Limits.{quiet, longQuiet, answerWait, nakWait, frameWait, handOvers, nakLimit}
+use Rattle.exchange_rules.specs.Exchange.{isOpen, turn, closed, handedAgain, starting, inside as within, waits, opened, firstByte, badFrame, startByte, gathered, heardIn, heard, expiredIn, expired, passed}
+use Rattle.exchange_rules.specs.Machine.{Model, Lawful, Verdict, bad, good, void, Box, StepAfter, ByteAfter, After, none, by-answer, by-refusal, by-doubt, doneAfter, told, quietAfter, shut, acted, badStep, judgedStep, judgeStep, byteActed, byteRefusals, tickRefusals, requestRefusals, next, opening, left, called-request, heardStep, ofStep, called-byte, called-tick, plain, Live, Stands, settled, Bounded, Sound}
+use Rattle.exchange_rules.specs.declared.line.Phase.{Phase}
+use Rattle.exchange_rules.specs.declared.line.Phase.the-variants.{Idle, First, Start, Inside}
+use Rattle.exchange_rules.specs.declared.line.Line.{Line}
+use Rattle.exchange_rules.specs.declared.line.Todo.the-variants.{Nothing, Keep, HandOver}
+use Rattle.exchange_rules.specs.declared.line.Turn.{Turn}
+use Rattle.exchange_rules.specs.declared.notes.Sums.{Sums}
+use Rattle.exchange_rules.proofs.Shown.{Roomy, together, apart, shows-opened, shows-refused, shows-unknown, shows-answered}
+use Rattle.exchange_rules.proofs.Bounds.{bounded-longer}
+use Rattle.exchange_rules.proofs.Keeping.{settled-most}
+
+abbrev pub stage : Phase → Stage
+stage Idle = idle
+stage First = first
+stage Start = start
+stage Inside = inside
+
+-- what is put at the start of a room that is long enough
+one-put : (r : List ℕ) (b : ℕ) → 0 < length r → take 1 (set r 0 b) ≡ b ∷ []
+one-put r b h = take-suc-set r 0 b h
+
+-- nothing, and a single byte, is no frame
+none-frame : isFrame [] ≡ false
+unfolding isFrame
+none-frame = refl
+
+one-frame : (b : ℕ) → isFrame (b ∷ []) ≡ false
+unfolding isFrame
+one-frame b = refl
+
+module _ {R X A C : Type 0} (U : Model R X A C) where
+  -- ---- the session, as its history can tell
+
+  abbrev pub view : Box R A → View R C
+  view s =
+      record {
+        stage = stage (s .line .phase);
+        asks = s .asks;
+        handed = s .line .handed;
+        gathered = take (s .line .got) (s .store);
+        need = s .line .need;
+        left = s .line .left;
+        count = s .line .accepted;
+        kept = λ c. plain (U .cassette (s .account) c);
+      }
+
+  abbrev pub rules : Rules R C
+  rules = record { unit = U .bytes; layout = U .layout; limit = handOvers; after = quietAfter U; fresh = quiet }
+
+  abbrev pub Tracks : Box R A → History R Ending → Type 0
+  Tracks s h = Follows rules (view s) h
+
+  -- after a step, with what its caller was told
+  abbrev Good : Box R A → History R Ending → Deed R → StepAfter X → List ℕ → Type 0
+  Good s h d w store = Tracks (next U s w store) (told d (w .reply) (w .room) ∷ h)
+
+  -- a sound session's sums have room
+  pub roomy : (s : Box R A) → Sound U s → (c : C) → Roomy (U .cassette (s .account) c)
+  roomy s k c =
+      let h : settled (s .line .phase) (s .line .accepted) ≤ 1_000_000 = omega (arith, k .commands, settled-most (s .line .phase) (s .line .accepted)) in
+      bounded-longer (k .books c) (k .commands) h
+
+  -- what may be sent
+  nothing-sent : (h : History R Ending) (d : Deed R) → OnLine d → Sends (U .bytes) (U .layout) h d []
+  nothing-sent h (asks q) o = absurd o
+  nothing-sent h (hears b) o = inl refl
+  nothing-sent h (passes ms) o = inl refl
+
+  nak-sent : (h : History R Ending) (d : Deed R) → OnLine d → Sends (U .bytes) (U .layout) h d (0x15 ∷ [])
+  nak-sent h (asks q) o = absurd o
+  nak-sent h (hears b) o = inr (inr (inl refl))
+  nak-sent h (passes ms) o = inr refl
+
+  module _ (K : Lawful U) where
+    -- a command's frame is a frame
+    layout-frame : (q : R) → U .sendable q .holds → isFrame (U .layout q) ≡ true
+    unfolding isFrame
+    layout-frame q h = lt-ltb 1 (length (U .layout q)) (K .long q h)
+
+    -- ---- the moves of a session, each with what its caller was told
+
+    -- another line and store, and the rest as it was
+    abbrev moved : Box R A → Line → List ℕ → Box R A
+    moved s m store = record { line = m; asks = s .asks; account = s .account; store = store }
+
+    module _ (s : Box R A) (h : History R Ending) (k : Sound U s) (t : Tracks s h) where
+      -- the place and the stand, in a phase that is known
+      at : {p : Phase} → s .line .phase ≡ p → At rules (stage p) (view s) h
+      at e = subst (λ (p : Phase). At rules (stage p) (view s) h) e (t .place)
+
+      stood : {p : Phase} → s .line .phase ≡ p → Stands U p (s .line) (s .asks)
+      stood e = subst (λ (p : Phase). Stands U p (s .line) (s .asks)) e (k .stands)
+
+      module _ (d : Deed R) (o : OnLine d) where
+        -- nothing is put, and nothing closes
+        quiet-good : (m : Line) (store : List ℕ) → m .accepted ≡ s .line .accepted
+            → At rules (stage (m .phase)) (view (moved s m store)) (done d [] goes-on ∷ h)
+            → Tracks (moved s m store) (done d [] goes-on ∷ h)
+        quiet-good m store g p = still-follows rules o none-frame (view (moved s m store)) t (λ c. refl) g (nothing-sent h d o) p
+
+        module _ (x : OpenIn rules (view s) h) (op : Live U (s .line) (s .asks)) where
+          -- the sums of a cassette while the command is open
+          abbrev older : C → Totals
+          older c = totals (U .bytes) (x .older) c
+
+          held : (c : C) → plain (U .cassette (s .account) c) ≡ with-share (U .bytes) (older c) waiting (s .asks) c
+          held c = open-kept rules (view s) h t x c
+
+          -- what is open of it is what was asked
+          pending : (c : C) → U .cassette (s .account) c .pending .0 ≡ U .bytes .wants (s .asks) c
+          unfolding with-share
+          pending c = omega (arith, apart (held c) .pending, x .over c)
+
+          wanted : (c : C) → U .bytes .wants (s .asks) c ≤ 255
+          wanted c = K .modest (s .asks) c (op .sent)
+
+          refused-kept : (c : C) → plain (U .cassette (U .refuses (s .account) (s .asks)) c) ≡ with-share (U .bytes) (older c) turned-down (s .asks) c
+          refused-kept c =
+              ap plain (K .refuses (s .account) (s .asks) c)
+              ∙ together (shows-refused (U .bytes) (U .cassette (s .account) c) (older c) (s .asks) c (roomy s k c) (apart (held c)) (x .over c) (wanted c))
+
+          unknown-kept : (c : C) → plain (U .cassette (U .loses (s .account) (s .asks)) c) ≡ with-share (U .bytes) (older c) in-doubt (s .asks) c
+          unknown-kept c =
+              ap plain (K .loses (s .account) (s .asks) c)
+              ∙ together (shows-unknown (U .bytes) (U .cassette (s .account) c) (older c) (s .asks) c (roomy s k c) (apart (held c)) (x .over c) (wanted c))
+
+          answered-kept : (f : List ℕ) (v : X) → U .judges (s .asks) f ≡ good v
+              → (c : C) → plain (U .cassette (U .answers (s .account) (s .asks) v) c) ≡ with-share (U .bytes) (older c) (answered-by f) (s .asks) c
+          answered-kept f v e c =
+              ap plain (K .answers (s .account) (s .asks) f v c (op .sent) e (pending c))
+              ∙ together (shows-answered (U .bytes) (U .cassette (s .account) c) (older c) (s .asks) c (roomy s k c) (apart (held c)) (x .over c)
+              f _ _ refl refl (wanted c) (K .paid (s .asks) f v c (op .sent) e) (K .spoilt (s .asks) f v c (op .sent) e))
+
+          -- the command closes, and the account with it
+          closes-good : (put : List ℕ) → isFrame put ≡ false → Sends (U .bytes) (U .layout) h d put → (end : Ending) (account : A) (store : List ℕ)
+              → ((c : C) → plain (U .cassette account c) ≡ with-share (U .bytes) (older c) (fate-by rules (view s) h d put end) (s .asks) c)
+              → Tracks (record { line = closed (s .line) (quietAfter U (s .asks) end); asks = s .asks; account = account; store = store }) (done d put (closes end) ∷ h)
+          closes-good put e w end account store kept =
+              closes-follows rules (view s) h t x d o put e w end
+              (view (record { line = closed (s .line) (quietAfter U (s .asks) end); asks = s .asks; account = account; store = store })) refl refl refl refl kept
+
+          module _ (r store : List ℕ) where
+            refuse-good : Good s h d (doneAfter (shut U (s .asks) quiet (s .line)) 0 by-refusal r) store
+            refuse-good = closes-good [] none-frame (nothing-sent h d o) refused _ store refused-kept
+
+            lost-good : (put : List ℕ) → isFrame put ≡ false → Sends (U .bytes) (U .layout) h d put
+                → Tracks (next U s (doneAfter (shut U (s .asks) longQuiet (s .line)) 0 by-doubt r) store) (done d put (closes unknown) ∷ h)
+            lost-good put e w = closes-good put e w unknown _ store unknown-kept
+
+            lose-good : Good s h d (doneAfter (shut U (s .asks) longQuiet (s .line)) 0 by-doubt r) store
+            lose-good = lost-good [] none-frame (nothing-sent h d o)
+
+            module _ (long : 0 < length r) where
+              nak-lose-good : Good s h d (doneAfter (shut U (s .asks) longQuiet (s .line)) 1 by-doubt (set r 0 0x15)) store
+              nak-lose-good =
+                  subst (λ (put : List ℕ). Tracks (next U s (doneAfter (shut U (s .asks) longQuiet (s .line)) 1 by-doubt (set r 0 0x15)) store) (done d put (closes unknown) ∷ h))
+                  (sym (one-put r 0x15 long)) (lost-good (0x15 ∷ []) (one-frame 0x15) (nak-sent h d o))
+
+              nak-good : (left naks : ℕ) → Good s h d (doneAfter (starting (s .line) left naks) 1 none (set r 0 0x15)) store
+              nak-good left naks =
+                  let w = view (moved s (starting (s .line) left naks) store) in
+                  subst (λ (put : List ℕ). Follows rules w (done d put goes-on ∷ h)) (sym (one-put r 0x15 long))
+                  (still-follows rules o (one-frame 0x15) w t (λ c. refl) refl (nak-sent h d o) (open-still rules o (one-frame 0x15) w refl refl x))
+
+              -- a bad frame, or a late one
+              bad-good : (left : ℕ) → Good s h d (badStep U (waits (s .line) left) (s .asks) r) store
+              unfolding badStep badFrame
+              bad-good left =
+                  pick (λ (u : Turn). Good s h d (acted U (u .todo) (u .line) (s .asks) r) store) (under (s .line .naks) (nakLimit - 1)) _ _
+                  (λ g. nak-good nakWait (s .line .naks + 1))
+                  (λ n. nak-lose-good)
+
+    -- ---- a byte
+
+    module _ (s : Box R A) (h : History R Ending) (k : Sound U s) (t : Tracks s h) (b : ℕ) (r : List ℕ) (long : 16 ≤ length r) where
+      -- what the exchange says of a byte is what the history then says
+      abbrev Heard : Turn → Type 0
+      Heard u =
+          let w = byteActed U (u .todo) (u .line) (s .asks) (s .store) (s .line .got) b r in
+          Good s h (hears b) (w .step) (w .store)
+
+      -- a byte that is ignored, or skipped
+      idle-heard : s .line .phase ≡ Idle → Heard (turn (waits (s .line) (s .line .need)) Nothing)
+      unfolding quietTime
+      idle-heard e =
+          let m = waits (s .line) (s .line .need) in
+          quiet-good s h k t (hears b) tt m (s .store) refl
+          (subst (λ (p : Phase). At rules (stage p) (view (moved s m (s .store))) (done (hears b) [] goes-on ∷ h)) (sym e)
+          (idle-still rules tt none-frame (view (moved s m (s .store))) refl (omega arith) (at s h k t e)))
+
+      skip-heard : s .line .phase ≡ Start → Heard (turn (waits (s .line) (s .line .left)) Nothing)
+      skip-heard e =
+          let m = waits (s .line) (s .line .left) in
+          quiet-good s h k t (hears b) tt m (s .store) refl
+          (subst (λ (p : Phase). At rules (stage p) (view (moved s m (s .store))) (done (hears b) [] goes-on ∷ h)) (sym e)
+          (open-still rules tt none-frame (view (moved s m (s .store))) refl refl (at s h k t e)))
+
+      -- the first byte since a hand-over; at 15h the frame is handed over again, and that is counted
+      again-heard : (x : OpenIn rules (view s) h) → since h ≡ [] → Live U (s .line) (s .asks) → b ≡ 0x15 → s .line .handed < handOvers
+          → (n : ℕ) → n ≡ s .line .handed + 1 → Heard (turn (handedAgain (s .line) n) HandOver)
+      again-heard x fresh op z few n more =
+          let w = view (moved s (handedAgain (s .line) n) (s .store)) in
+          subst (λ (put : List ℕ). Follows rules w (done (hears b) put goes-on ∷ h)) (sym (K .laid (s .asks) r (op .sent) long))
+          (subst (λ (b : ℕ). Follows rules w (done (hears b) (U .layout (s .asks)) goes-on ∷ h)) (sym z)
+          (again-follows rules (view s) h t x w refl refl more (omega arith) (λ c. refl) refl fresh (layout-frame (s .asks) (op .sent))))
+
+      first-heard : s .line .phase ≡ First → Heard (firstByte (s .line) b)
+      unfolding firstByte
+      first-heard e =
+          let x = at s h k t e .0 in
+          let op = stood s h k t e in
+          pick Heard (same b 0x06) _ _
+          (λ g.
+          let m = starting (s .line) answerWait (s .line .naks) in
+          quiet-good s h k t (hears b) tt m (s .store) refl (open-still rules tt none-frame (view (moved s m (s .store))) refl refl x))
+          (λ n. pick Heard (same b _) _ _
+          (λ g. pick Heard (under (s .line .handed) handOvers) _ _
+          (λ y. again-heard x (at s h k t e .1) op (omega (arith, g)) y _ (omega arith))
+          (λ y. refuse-good s h k t (hears b) tt x op r (s .store)))
+          (λ m. lose-good s h k t (hears b) tt x op r (s .store)))
+
+      -- bytes of an answer: the store holds the last that came
+      kept-last : s .line .got < U .longest → take (s .line .got + 1) (set (s .store) (s .line .got) b) ≡ take (s .line .got) (s .store) ++ (b ∷ [])
+      kept-last g = rw add-one (take-suc-set (s .store) (s .line .got) b (omega (arith, k .store)))
+
+      keep-heard : (left got : ℕ) (before : List ℕ) → got ≡ s .line .got + 1 → s .line .got < U .longest → OpenIn rules (view s) h
+          → bytes h ≡ before ++ take (s .line .got) (s .store)
+          → Heard (turn (within (s .line) left got) Keep)
+      unfolding bytes
+      keep-heard left got before n g x e =
+          let m = within (s .line) left got in
+          let store = set (s .store) (s .line .got) b in
+          quiet-good s h k t (hears b) tt m store refl (
+            open-still rules tt none-frame (view (moved s m store)) refl refl x,
+            record {
+              before = before;
+              came = ap (λ (l : List ℕ). l ++ (b ∷ [])) e ∙ append-assoc before (take (s .line .got) (s .store)) (b ∷ [])
+                  ∙ ap (λ (l : List ℕ). before ++ l) (sym (kept-last g) ∙ ap (λ (i : ℕ). take i store) (sym n));
+            },
+          )
+
+      start-heard : s .line .phase ≡ Start → Heard (startByte (s .line) b)
+      unfolding startByte
+      start-heard e =
+          let z = stood s h k t e .1 in
+          let op = stood s h k t e .0 in
+          let some : 0 < U .longest = omega (arith, K .least (s .asks) (op .sent), K .most (s .asks) (op .sent)) in
+          pick Heard (same b 0x01) _ _
+          (λ g.
+          keep-heard frameWait 1 (bytes h) (omega (arith, z)) (omega (arith, z, some)) (at s h k t e)
+          (sym (append-nil (bytes h)) ∙ ap (λ (i : ℕ). bytes h ++ take i (s .store)) (sym z)))
+          (λ n. skip-heard e)
+
+      -- the frame is full and is judged: it is the last bytes that came
+      module _ (x : OpenIn rules (view s) h) (op : Live U (s .line) (s .asks)) (store f : List ℕ)
+          (last : lastOf (U .bytes .span (s .asks)) (bytes h ++ (b ∷ [])) ≡ f) where
+        answer-good : (v : X) → U .judges (s .asks) f ≡ good v → (left : ℕ)
+            → Good s h (hears b) (doneAfter (shut U (s .asks) quiet (waits (s .line) left)) 1 (by-answer v) (set r 0 0x06)) store
+        unfolding bytes
+        answer-good v e left =
+            subst (λ (put : List ℕ). Tracks (next U s (doneAfter (shut U (s .asks) quiet (s .line)) 1 (by-answer v) (set r 0 0x06)) store) (done (hears b) put (closes answered) ∷ h))
+            (sym (one-put r 0x06 (omega arith)))
+            (closes-good s h k t (hears b) tt x op (0x06 ∷ []) (one-frame 0x06) (inr (inl refl)) answered _ store
+            (λ c.
+            answered-kept s h k t (hears b) tt x op f v e c
+            ∙ ap (λ (w : List ℕ). with-share (U .bytes) (totals (U .bytes) (x .older) c) (answered-by w) (s .asks) c) (sym last)))
+
+        -- an answer which says that nothing was done
+        void-good : (left : ℕ) → Good s h (hears b) (doneAfter (shut U (s .asks) quiet (waits (s .line) left)) 1 by-refusal (set r 0 0x06)) store
+        void-good left =
+            subst (λ (put : List ℕ). Tracks (next U s (doneAfter (shut U (s .asks) quiet (s .line)) 1 by-refusal (set r 0 0x06)) store) (done (hears b) put (closes refused) ∷ h))
+            (sym (one-put r 0x06 (omega arith)))
+            (closes-good s h k t (hears b) tt x op (0x06 ∷ []) (one-frame 0x06) (inr (inl refl)) refused _ store (refused-kept s h k t (hears b) tt x op))
+
+        judged-good : (v : Verdict X) → U .judges (s .asks) f ≡ v → (left : ℕ) → Good s h (hears b) (judgedStep U v (waits (s .line) left) (s .asks) r) store
+        judged-good bad e left = bad-good s h k t (hears b) tt x op r store (omega arith) left
+        judged-good (good v) e left = answer-good v e left
+        judged-good void e left = void-good left
+
+      inside-heard : s .line .phase ≡ Inside → Heard (gathered (s .line) (U .bytes .span (s .asks)))
+      unfolding gathered judgeStep
+      inside-heard e =
+          let n = U .bytes .span (s .asks) in
+          let x = at s h k t e .0 in
+          let y = at s h k t e .1 in
+          let op = stood s h k t e .0 in
+          let few = stood s h k t e .2 in
+          let most = K .most (s .asks) (op .sent) in
+          let short : s .line .got < U .longest = omega (arith, few, most) in
+          pick Heard (under (s .line .got + 1) n) _ _
+          (λ g. keep-heard (s .line .left) (s .line .got + 1) (y .before) refl short x (y .came))
+          (λ m.
+          let full : n ≡ s .line .got + 1 = omega (arith, few) in
+          let store = set (s .store) (s .line .got) b in
+          let f = take n store in
+          let whole : take (s .line .got) (s .store) ++ (b ∷ []) ≡ f = sym (kept-last short) ∙ ap (λ (i : ℕ). take i store) (sym full) in
+          let many : n ≡ length f = omega (arith, length-take-le n store (omega (arith, length-set (s .store) (s .line .got) b, k .store, most))) in
+          judged-good x op store f
+          (ap (λ (l : List ℕ). lastOf n (l ++ (b ∷ []))) (y .came)
+          ∙ ap (lastOf n) (append-assoc (y .before) (take (s .line .got) (s .store)) (b ∷ []) ∙ ap (λ (l : List ℕ). y .before ++ l) whole)
+          ∙ last-of (y .before) f n many)
+          (U .judges (s .asks) f) refl (s .line .left))
+
+      heard-good : Heard (heard (s .line) (U .bytes .span (s .asks)) b)
+      unfolding heard
+      heard-good = by (s .line .phase) refl
+        where
+          by : (p : Phase) → s .line .phase ≡ p → Heard (heardIn p (s .line) (U .bytes .span (s .asks)) b)
+          by Idle e = idle-heard e
+          by First e = first-heard e
+          by Start e = start-heard e
+          by Inside e = inside-heard e
+
+    -- ---- a tick
+
+    module _ (s : Box R A) (h : History R Ending) (k : Sound U s) (t : Tracks s h) (ms : ℕ) (r : List ℕ) (long : 16 ≤ length r) where
+      -- what the exchange says of a tick is what the history then says
+      abbrev Passed : Turn → Type 0
+      Passed u = Good s h (passes ms) (acted U (u .todo) (u .line) (s .asks) r) (s .store)
+
+      -- with so much left of the wait
+      abbrev left-with : ℕ → View R C
+      left-with left = view (moved s (waits (s .line) left) (s .store))
+
+      -- a wait that goes on, or quiet that has been reached
+      waiting-on : (left : ℕ) → (s .line .phase ≡ Idle → left ≡ s .line .left - ms) → Passed (turn (waits (s .line) left) Nothing)
+      unfolding quietTime bytes
+      waiting-on left q =
+          quiet-good s h k t (passes ms) tt (waits (s .line) left) (s .store) refl (by (s .line .phase) q (t .place))
+        where
+          by : (p : Phase) → (p ≡ Idle → left ≡ s .line .left - ms) → At rules (stage p) (view s) h → At rules (stage p) (left-with left) (done (passes ms) [] goes-on ∷ h)
+          by Idle q x = idle-still rules tt none-frame (left-with left) refl (omega (arith, q refl, x .wait)) x
+          by First q x = (open-still rules tt none-frame (left-with left) refl refl (x .0), since-more h [] goes-on (passes ms) none-frame ∙ append-nil (since h) ∙ x .1)
+          by Start q x = open-still rules tt none-frame (left-with left) refl refl x
+          by Inside q x =
+              (open-still rules tt none-frame (left-with left) refl refl (x .0), record { before = x .1 .before; came = append-nil (bytes h) ∙ x .1 .came })
+
+      expired-good : (ms < s .line .left → ⊥) → Passed (expired (s .line))
+      unfolding expired badFrame badStep
+      expired-good n = by (s .line .phase) refl
+        where
+          by : (p : Phase) → s .line .phase ≡ p → Passed (expiredIn p (s .line))
+          by Idle e = waiting-on 0 (λ i. omega (arith, certain (atMost (s .line .left) ms) (λ w. n (omega arith))))
+          by First e = lose-good s h k t (passes ms) tt (at s h k t e .0) (stood s h k t e) r (s .store)
+          by Start e = lose-good s h k t (passes ms) tt (at s h k t e) (stood s h k t e .0) r (s .store)
+          by Inside e = bad-good s h k t (passes ms) tt (at s h k t e .0) (stood s h k t e .0) r (s .store) (omega arith) (s .line .left)
+
+      passed-good : Passed (passed (s .line) ms)
+      unfolding passed
+      passed-good =
+          pick Passed (under ms (s .line .left)) _ _ (λ g. waiting-on (s .line .left - ms) (λ e. refl)) (λ n. expired-good n)
+
+    -- ---- the three calls
+
+    module _ (s : Box R A) (h : History R Ending) (k : Sound U s) (t : Tracks s h) where
+      -- with nothing open, the line is idle
+      idle-at : (p : Phase) → (isOpen p ≡ true → ⊥) → At rules (stage p) (view s) h → IdleIn rules (view s) h
+      idle-at Idle n x = x
+      idle-at First n x = absurd (n refl)
+      idle-at Start n x = absurd (n refl)
+      idle-at Inside n x = absurd (n refl)
+
+      -- a request is accepted on an idle line
+      opened-good : (q : R) (r : List ℕ) → U .sendable q .holds → 16 ≤ length r → IdleIn rules (view s) h
+          → Tracks (opening U s q) (done (asks q) (take (U .hands q r .put) (U .hands q r .room)) goes-on ∷ h)
+      opened-good q r sent long x =
+          let w = view (opening U s q) in
+          subst (λ (put : List ℕ). Follows rules w (done (asks q) put goes-on ∷ h)) (sym (K .laid q r sent long))
+          (opened-follows rules (view s) w h t x refl refl (lit≤ tt) refl (layout-frame q sent)
+          (λ c.
+          ap plain (K .opens (s .account) q c)
+          ∙ together (shows-opened (U .bytes) (U .cassette (s .account) c) (sums (U .bytes) h c) q c (roomy s k c) (apart (t .books c)) (x .over c) (K .modest q c sent))))
+
+      pub request-tracks : (q : R) (r : List ℕ) → Tracks (called-request U s q r .box) (told (asks q) (called-request U s q r .reply) (called-request U s q r .room) ∷ h)
+      unfolding called-request requestRefusals
+      request-tracks q r =
+          either-way (λ (w : After R X A). Tracks (w .box) (told (asks q) (w .reply) (w .room) ∷ h)) (requestRefusals U (s .line) q r) (left U s r) _
+          (λ why. declined-follows rules (view s) h t)
+          (λ n.
+          opened-good q r (certain (U .sendable q) (n .1 .0)) (certain (atMost 16 (length r)) (λ w. n .0 (omega arith)))
+          (idle-at (s .line .phase) (n .1 .1 .0) (t .place)))
+
+      pub byte-tracks : (b : ℕ) (r : List ℕ) → Tracks (called-byte U s b r .box) (told (hears b) (called-byte U s b r .reply) (called-byte U s b r .room) ∷ h)
+      unfolding called-byte heardStep byteRefusals
+      byte-tracks b r =
+          either-way (λ (w : After R X A). Tracks (w .box) (told (hears b) (w .reply) (w .room) ∷ h)) (byteRefusals U r) (left U s r) _
+          (λ why. declined-follows rules (view s) h t)
+          (λ n. heard-good s h k t b r (certain (atMost 16 (length r)) (λ w. n .0 (omega arith))))
+
+      pub tick-tracks : (ms : ℕ) (r : List ℕ) → Tracks (called-tick U s ms r .box) (told (passes ms) (called-tick U s ms r .reply) (called-tick U s ms r .room) ∷ h)
+      unfolding called-tick tickRefusals
+      tick-tracks ms r =
+          either-way (λ (w : After R X A). Tracks (w .box) (told (passes ms) (w .reply) (w .room) ∷ h)) (tickRefusals U ms r) (left U s r) _
+          (λ why. declined-follows rules (view s) h t)
+          (λ n. passed-good s h k t ms r (certain (atMost 16 (length r)) (λ w. n .0 (omega arith))))
+
+      -- while a command is open, what is open of a cassette is what was asked of it
+      pub open-pending : (c : C) → isOpen (s .line .phase) ≡ true → U .cassette (s .account) c .pending .0 ≡ U .bytes .wants (s .asks) c
+      open-pending c o = by (s .line .phase) o refl
+        where
+          by : (p : Phase) → isOpen p ≡ true → s .line .phase ≡ p → U .cassette (s .account) c .pending .0 ≡ U .bytes .wants (s .asks) c
+          by Idle o e = let z : _≡_ {A = ℕ} 0 1 = cc in absurd (omega arith)
+          by First o e = pending s h k t (hears 0) tt (at s h k t e .0) (stood s h k t e) c
+          by Start o e = pending s h k t (hears 0) tt (at s h k t e) (stood s h k t e .0) c
+          by Inside o e = pending s h k t (hears 0) tt (at s h k t e .0) (stood s h k t e .0) c

@@ -1,8 +1,0 @@
--- What the contracts of `validator` cite.
-pub mod Limits
-pub mod Line
-pub mod Bills
-pub mod Session
-pub mod Promises
-pub mod Calls
-pub mod History

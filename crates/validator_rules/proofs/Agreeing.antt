@@ -1,0 +1,804 @@
+-- After any calls at all the session agrees with the history: its bills, its store, and the numbers 3, 4 and 5. Assumes nothing.
+use Prim.Native.Nat.{ℕ, _+_, _-_, _≤_, _<_}
+use mathlib.Core.Path.{_≡_, refl, sym, ap, ap₂, _∙_, subst}
+use mathlib.Core.Bool.{Bool, true, false, cond, true≢false}
+use mathlib.Core.List.{List, [], _∷_, _++_, append-nil}
+use native.Mathlib.Omega.{arith}
+use lib.Dec.{eqb, lit≤}
+use lib.ListN.{length, getD, set, take, replicate, length-append, length-replicate, getD-replicate, List·getD-append}
+use lib.Seq.{take-at, getD-at}
+use borrow.Author.Tests.{lt-ltb}
+use Rattle.numbers.specs.Rules.{under, within, same}
+use Rattle.numbers.specs.Promises.{Bytes}
+use Rattle.numbers.specs.Put.{over}
+use Rattle.numbers.proofs.Rules.{holds-true, fails-false, by-cases, cond-true, cond-false, pick, either-way, Alike}
+use Rattle.numbers.proofs.Writing.{take-over}
+use Rattle.ccnet_frame.specs.Frame.{closed as with-check, frame, judgeFrame, bodyOf}
+use Rattle.ccnet_frame.specs.Class.{classOf, classBytes, isNamed}
+use Rattle.ccnet_frame.specs.declared.frame.Judged.{Judged}
+use Rattle.ccnet_frame.specs.declared.frame.Judged.the-variants.{Good as Passed, Refused as Failed}
+use Rattle.ccnet_frame.specs.declared.class.Class.{Class}
+use Rattle.ccnet_frame.specs.declared.class.Class.the-variants.{Ack, Nak, Illegal, State, Busy, Rejecting, Failing, Escrow, Stacked, Returned, Unknown}
+use Rattle.ccnet_frame.proofs.Frames.{frame-length, frame-judged, good-long, good-most, good-size, good-frame}
+use Rattle.ccnet_frame.proofs.Classes.{classes}
+use Rattle.ledger.specs.Events.{Deed, asks, hears, waits, goes-on, closes, Event, declined, done, isFrame, since}
+use Rattle.ledger.specs.Line.{isOpen, quietTime, accepted}
+use Rattle.ledger.proofs.Declining.{given-alike}
+use Rattle.validator_rules.specs.Limits.{quiet, frameWait, storeSize, commandLimit, types}
+use Rattle.validator_rules.specs.Line.{isOpen as openIn, opened, closed, remembers, inside, waits as still, startByte, addressByte, lengthByte, furtherByte, gathered, heardIn, heard, expiredIn, expired, passed}
+use Rattle.validator_rules.specs.Bills.{bills, bookedBy, poll, remembered}
+use Rattle.validator_rules.specs.Session.{LentAfter, StepAfter, stepAfter, refusedStep, lentAfter, afterStep, zeros, damagedStep, answeredStep, classStep, foundIn, found, judgedStep, judgeStep, acted, byteActed, byteRefusals, tickRefusals, requestRefusals, byteStep, tickStep, requestStep, freshSession, sessionRequest, sessionByte, sessionTick}
+use Rattle.validator_rules.specs.History.{Request, Ending, acknowledged, refused, illegal, answered, damaged, silent, Past, lastCode, fromStart, between, pollBody, reported, counted, gathered as so-far, told, seen, historyFrom, history, Carries, Other, Says, Truly, KeptByHistory, historyRefusals, DeclinesByHistory}
+use Rattle.validator_rules.specs.Calls.{Call, request, byte, tick, called, run}
+use Rattle.validator_rules.specs.declared.bills.Bills.{Bills}
+use Rattle.validator_rules.specs.declared.line.Phase.{Phase}
+use Rattle.validator_rules.specs.declared.line.Phase.the-variants.{Idle, Start, Inside}
+use Rattle.validator_rules.specs.declared.line.Line.{Line}
+use Rattle.validator_rules.specs.declared.line.Todo.the-variants.{Nothing, Keep, Silence}
+use Rattle.validator_rules.specs.declared.line.Turn.{Turn}
+use Rattle.validator_rules.specs.declared.session.Session.{Session}
+use Rattle.validator_rules.proofs.Past.{start-next, start-more, store-more, bytes-more, nothing-counted, counted-most}
+use Rattle.validator_rules.proofs.Exact.{exactly-when}
+use Rattle.validator_rules.proofs.Booking.{Base, Fewer, answered-base, same-base}
+
+-- ---- where the line stands
+
+-- nothing open: the store is clean, and what is missing of the quiet time is left
+record Resting (l : Line) (store : List ℕ) (h : Past) : Type 0 where
+  shut : isOpen h ≡ false
+  clean : store ≡ zeros
+  missing : l .left ≡ quiet - quietTime h
+  bound : (y : ℕ) → y < types → counted y h ≤ accepted h
+
+-- a command open, and no 02h yet
+record Awaiting (l : Line) (store : List ℕ) (h : Past) : Type 0 where
+  live : isOpen h ≡ true
+  none : fromStart (since h) ≡ []
+  clean : store ≡ zeros
+  nothing : l .got ≡ 0
+  bound : Fewer h
+
+-- inside an answer: the store holds what has come since 02h, and then zeros
+record Gathering (l : Line) (store : List ℕ) (h : Past) : Type 0 where
+  live : isOpen h ≡ true
+  size : length (fromStart (since h)) ≡ l .got
+  filled : store ≡ fromStart (since h) ++ replicate (storeSize - l .got) 0
+  least : 1 ≤ l .got
+  less : l .got < l .want
+  most : l .want ≤ storeSize
+  untold : l .got ≤ 2 → l .want ≡ storeSize
+  named : 2 ≤ l .got → getD (fromStart (since h)) 1 0 ≡ 0x03
+  sized : 3 ≤ l .got → getD (fromStart (since h)) 2 0 ≡ l .want
+  bytes : Bytes (fromStart (since h))
+  bound : Fewer h
+
+abbrev Stands : Phase → Line → List ℕ → Past → Type 0
+Stands Idle l store h = Resting l store h
+Stands Start l store h = Awaiting l store h
+Stands Inside l store h = Gathering l store h
+
+record Agrees (s : Session) (h : Past) : Type 0 where
+  base : Base (s .line) (s .bills) h
+  stands : Stands (s .line .phase) (s .line) (s .store) h
+  truly : Truly h
+
+-- ---- a call that goes on, and one that closes
+
+-- a call that completed nothing leaves the bounds
+module _ (e : Event Request Ending) (h : Past) (none : pollBody e h ≡ []) (ea : accepted (e ∷ h) ≡ accepted h) where
+  fewer-still : Fewer h → Fewer (e ∷ h)
+  fewer-still f y small = omega (arith, nothing-counted y e h none, ea, f y small)
+
+  few-still : ((y : ℕ) → y < types → counted y h ≤ accepted h) → (y : ℕ) → y < types → counted y (e ∷ h) ≤ accepted (e ∷ h)
+  few-still f y small = omega (arith, nothing-counted y e h none, ea, f y small)
+
+-- a call that closed the command
+record Ends (e : Event Request Ending) (h : Past) : Type 0 where
+  shut : isOpen (e ∷ h) ≡ false
+  quieted : quietTime (e ∷ h) ≡ 0
+  as-many : accepted (e ∷ h) ≡ accepted h
+  as-coded : lastCode (e ∷ h) ≡ lastCode h
+
+heard-ends : (h : Past) (b : ℕ) (put : List ℕ) (k : Ending) → Ends (done (hears b) put (closes k)) h
+unfolding isOpen quietTime accepted lastCode
+heard-ends h b put k = record { shut = refl; quieted = refl; as-many = refl; as-coded = refl }
+
+waited-ends : (h : Past) (ms : ℕ) (put : List ℕ) (k : Ending) → Ends (done (waits ms) put (closes k)) h
+unfolding isOpen quietTime accepted lastCode
+waited-ends h ms put k = record { shut = refl; quieted = refl; as-many = refl; as-coded = refl }
+
+module _ (l : Line) (bs : List Bills) (h : Past) (base : Base l bs h) (fewer : Fewer h) (e : Event Request Ending) (ends : Ends e h) where
+  -- the line rests, whatever is remembered
+  rests : (m : Line) → m .left ≡ quiet → Resting m zeros (e ∷ h)
+  rests m ml =
+      record {
+        shut = ends .shut;
+        clean = refl;
+        missing = omega (arith, ml, ends .quieted);
+        bound = λ y small. omega (arith, counted-most y e h, fewer y small, ends .as-many);
+      }
+
+  closes-agrees : pollBody e h ≡ [] → Truly (e ∷ h) → Agrees (record { line = closed l; bills = bs; store = zeros }) (e ∷ h)
+  closes-agrees none truly =
+      record {
+        base = same-base l (closed l) bs h base refl refl refl e none (ends .as-many) (ends .as-coded);
+        stands = rests (closed l) refl;
+        truly = truly;
+      }
+
+-- the address stands behind 02h, and then the length
+second : (a : ℕ) (body : List ℕ) → getD (frame a body) 1 0 ≡ a
+unfolding frame with-check
+second a body = refl
+
+third : (a : ℕ) (body : List ℕ) → getD (frame a body) 2 0 ≡ 5 + length body
+unfolding frame with-check
+third a body = refl
+
+-- ---- bytes that begin no good frame from address 03h
+
+module _ (f : List ℕ) where
+  -- the byte at a place is that of any frame which they begin
+  begun : (body rest : List ℕ) → f ++ rest ≡ frame 0x03 body → (i : ℕ) → i < length f → getD f i 0 ≡ getD (frame 0x03 body) i 0
+  begun body rest is i h = sym (List·getD-append f rest 0 i h) ∙ ap (λ (x : List ℕ). getD x i 0) is
+
+  wrong-address : 2 ≤ length f → (getD f 1 0 ≡ 0x03 → ⊥) → Says damaged f
+  wrong-address long n body rest is = n (begun body rest (is .0) 1 (omega arith) ∙ second 0x03 body)
+
+  wrong-length : 3 ≤ length f → getD f 2 0 < 6 → Says damaged f
+  wrong-length long short body rest is =
+      omega (arith, begun body rest (is .0) 2 (omega arith), third 0x03 body, is .1 .0)
+
+  -- a whole one that is bad
+  wrong-frame : 3 ≤ length f → getD f 2 0 ≡ length f → (judgeFrame f ≡ Passed 0x03 → ⊥) → Says damaged f
+  wrong-frame long sized bad body [] is =
+      bad (ap judgeFrame (sym (append-nil f) ∙ is .0) ∙ frame-judged 0x03 body (lit≤ tt, lit≤ tt) (is .1 .0))
+  wrong-frame long sized bad body (b ∷ rest) is =
+      omega (
+        arith,
+        sized,
+        begun body (b ∷ rest) (is .0) 2 (omega arith),
+        third 0x03 body,
+        frame-length 0x03 body,
+        ap length (is .0),
+        length-append f (b ∷ rest),
+      )
+
+-- ---- bodies that get a reply
+
+abbrev replied : Class → Bool
+replied Ack = false
+replied Nak = false
+replied Illegal = false
+replied (State b) = true
+replied (Busy b) = true
+replied (Rejecting b) = true
+replied (Failing b) = true
+replied (Escrow y) = true
+replied (Stacked y) = true
+replied (Returned y) = true
+replied Unknown = true
+
+-- they are not the bytes of a class that gets none
+replied-no : (body : List ℕ) → replied (classOf body) ≡ true → (c : Class) → isNamed c .holds → replied c ≡ false → body ≡ classBytes c → ⊥
+replied-no body gets c listed none is =
+    true≢false (sym gets ∙ ap (λ (x : List ℕ). replied (classOf x)) is ∙ ap replied (classes .back c listed) ∙ none)
+
+-- ---- what is left by a step
+
+-- the session agrees after a step that answers a byte or a tick
+abbrev Next : Session → Past → Deed Request → LentAfter → Type 0
+Next s h d w = Agrees (afterStep s w .session) (told d (w .step .reply) (w .room) ∷ h)
+
+module _ (s : Session) (h : Past) (k : Agrees s h) where
+  abbrev l : Line
+  l = s .line
+
+  -- ---- closings
+
+  module _ (fewer : Fewer h) (live : isOpen h ≡ true) (r : List ℕ) where
+    heard-damaged : (b : ℕ) → Says damaged (fromStart (since h ++ (b ∷ []))) → Next s h (hears b) (damagedStep (closed l) r)
+    unfolding damagedStep bookedBy Truly
+    heard-damaged b says = closes-agrees l (s .bills) h (k .base) fewer _ (heard-ends h b _ damaged) refl ((live, says), k .truly)
+
+    waited-damaged : (ms : ℕ) → (fromStart (since h) ≡ [] → ⊥) → Next s h (waits ms) (damagedStep (closed l) r)
+    unfolding damagedStep bookedBy Truly
+    waited-damaged ms some = closes-agrees l (s .bills) h (k .base) fewer _ (waited-ends h ms _ damaged) refl ((live, some), k .truly)
+
+    waited-silent : (ms : ℕ) → fromStart (since h) ≡ [] → Next s h (waits ms) (acted Silence (closed l) (s .store) r)
+    unfolding bookedBy Truly
+    waited-silent ms none = closes-agrees l (s .bills) h (k .base) fewer _ (waited-ends h ms _ silent) refl ((live, none), k .truly)
+
+    -- an answer that ends with b: a frame, and its body is what stands between
+    module _ (b : ℕ) (body : List ℕ) (is : body ≡ between (fromStart (since h ++ (b ∷ []))))
+        (good : Carries (fromStart (since h ++ (b ∷ []))) body) where
+      heard-answered : replied (classOf body) ≡ true → Next s h (hears b) (answeredStep (closed l) (classOf body) r)
+      unfolding answeredStep Truly
+      heard-answered gets =
+          let e = told (hears b) (answeredStep (closed l) (classOf body) r .step .reply) (answeredStep (closed l) (classOf body) r .room) in
+          let ends = heard-ends h b _ answered in
+          let m = remembers (closed l) (remembered (l .code) (l .last) (classOf body)) in
+          record {
+            base =
+                answered-base l (s .bills) h (k .base) fewer e body
+                (ap₂ (λ (c : ℕ) (x : List ℕ). cond (eqb c poll) x []) (sym (k .base .code-is)) (sym is))
+                m refl refl refl (ends .as-many) (ends .as-coded);
+            stands = rests l (s .bills) h (k .base) fewer e ends m refl;
+            truly = (
+              (
+                live,
+                subst (λ (x : List ℕ). Carries (fromStart (since h ++ (b ∷ []))) x × Other x) is
+                    (good, (replied-no body gets Ack tt refl, (replied-no body gets Nak tt refl, replied-no body gets Illegal tt refl))),
+              ),
+              k .truly,
+            );
+          }
+
+      -- a body of a class other than unknown is the bytes of that class
+      heard-says : (c : Class) → c ≡ classOf body → (c ≡ Unknown → ⊥) → Carries (fromStart (since h ++ (b ∷ []))) (classBytes c)
+      heard-says c e n =
+          subst (Carries (fromStart (since h ++ (b ∷ [])))) (sym (classes .again body (λ u. n (e ∙ u)) .1) ∙ ap classBytes (sym e)) good
+
+      heard-class : (c : Class) → c ≡ classOf body → Next s h (hears b) (classStep c (closed l) r)
+      unfolding bookedBy Truly
+      heard-class Ack e =
+          closes-agrees l (s .bills) h (k .base) fewer _ (heard-ends h b _ acknowledged) refl ((live, heard-says Ack e (λ u. let z : _≡_ {A = ℕ} 0 1 = cc in omega arith)), k .truly)
+      heard-class Nak e =
+          closes-agrees l (s .bills) h (k .base) fewer _ (heard-ends h b _ refused) refl ((live, heard-says Nak e (λ u. let z : _≡_ {A = ℕ} 0 1 = cc in omega arith)), k .truly)
+      heard-class Illegal e =
+          closes-agrees l (s .bills) h (k .base) fewer _ (heard-ends h b _ illegal) refl ((live, heard-says Illegal e (λ u. let z : _≡_ {A = ℕ} 0 1 = cc in omega arith)), k .truly)
+      heard-class (State x) e = subst (λ (c : Class). Next s h (hears b) (answeredStep (closed l) c r)) (sym e) (heard-answered (ap replied (sym e)))
+      heard-class (Busy x) e = subst (λ (c : Class). Next s h (hears b) (answeredStep (closed l) c r)) (sym e) (heard-answered (ap replied (sym e)))
+      heard-class (Rejecting x) e = subst (λ (c : Class). Next s h (hears b) (answeredStep (closed l) c r)) (sym e) (heard-answered (ap replied (sym e)))
+      heard-class (Failing x) e = subst (λ (c : Class). Next s h (hears b) (answeredStep (closed l) c r)) (sym e) (heard-answered (ap replied (sym e)))
+      heard-class (Escrow x) e = subst (λ (c : Class). Next s h (hears b) (answeredStep (closed l) c r)) (sym e) (heard-answered (ap replied (sym e)))
+      heard-class (Stacked x) e = subst (λ (c : Class). Next s h (hears b) (answeredStep (closed l) c r)) (sym e) (heard-answered (ap replied (sym e)))
+      heard-class (Returned x) e = subst (λ (c : Class). Next s h (hears b) (answeredStep (closed l) c r)) (sym e) (heard-answered (ap replied (sym e)))
+      heard-class Unknown e = subst (λ (c : Class). Next s h (hears b) (answeredStep (closed l) c r)) (sym e) (heard-answered (ap replied (sym e)))
+
+    -- a full frame, good or bad
+    heard-full : (b : ℕ) (f : List ℕ) → f ≡ fromStart (since h ++ (b ∷ [])) → getD f 1 0 ≡ 0x03 → Bytes f
+        → 3 ≤ length f → getD f 2 0 ≡ length f → Next s h (hears b) (judgedStep (found f) (closed l) r)
+    unfolding found between
+    heard-full b f is named bytes long sized = by (judgeFrame f) refl
+      where
+        by : (j : Judged) → judgeFrame f ≡ j → Next s h (hears b) (judgedStep (foundIn j f) (closed l) r)
+        by (Passed a) e =
+            let good = good-frame f a e bytes in
+            let three : a ≡ 0x03 = sym (second a (bodyOf f)) ∙ ap (λ (x : List ℕ). getD x 1 0) good ∙ named in
+            heard-class b (bodyOf f) (rw e (ap between is))
+            (sym is ∙ sym good ∙ ap (λ (n : ℕ). frame n (bodyOf f)) three, within-limits)
+            (classOf (bodyOf f)) refl
+          where
+            within-limits : within 1 250 (length (bodyOf f)) .holds
+            within-limits = (omega (arith, good-size f a e, good-long f a e), omega (arith, good-size f a e, good-most f a e bytes))
+        by (Failed fault) e =
+            heard-damaged b
+            (subst (Says damaged) is
+            (wrong-frame f long sized (λ u. let v : Passed 0x03 ≡ Failed fault = sym u ∙ e in let z : _≡_ {A = ℕ} 0 1 = cc in omega arith)))
+
+  -- ---- a byte that closes nothing
+
+  module _ (b : ℕ) (small : b < 256) where
+    -- the call, as a caller knows it
+    abbrev came : Event Request Ending
+    came = done (hears b) [] goes-on
+
+    came-base : (m : Line) → m .accepted ≡ l .accepted → m .code ≡ l .code → m .last ≡ l .last → Base m (s .bills) (came ∷ h)
+    unfolding accepted lastCode
+    came-base m ma mc ml = same-base l m (s .bills) h (k .base) ma mc ml came refl refl refl
+
+    came-open : isOpen (came ∷ h) ≡ isOpen h
+    unfolding isOpen
+    came-open = refl
+
+    came-fewer : Fewer h → Fewer (came ∷ h)
+    unfolding accepted
+    came-fewer f = fewer-still came h refl refl f
+
+    came-truly : Truly (came ∷ h)
+    unfolding Truly
+    came-truly = (tt, k .truly)
+
+    came-since : since (came ∷ h) ≡ since h ++ (b ∷ [])
+    unfolding since isFrame
+    came-since = refl
+
+    -- with nothing open
+    came-resting : Resting l (s .store) h → Resting (still l quiet) (s .store) (came ∷ h)
+    unfolding isOpen quietTime accepted
+    came-resting st =
+        record { shut = st .shut; clean = st .clean; missing = refl; bound = few-still came h refl refl (st .bound) }
+
+    -- no 02h yet, and this is none
+    came-skipped : Awaiting l (s .store) h → (b ≡ 0x02 → ⊥) → Awaiting (still l (l .left)) (s .store) (came ∷ h)
+    came-skipped st n =
+        record {
+          live = came-open ∙ st .live;
+          none = ap fromStart came-since ∙ start-next (since h) b (st .none) ∙ cond-false (b ∷ []) [] (fails-false (same b 0x02) n);
+          clean = st .clean;
+          nothing = st .nothing;
+          bound = came-fewer (st .bound);
+        }
+
+    -- 02h
+    came-started : Awaiting l (s .store) h → b ≡ 0x02
+        → Gathering (inside l frameWait 1 storeSize) (set (s .store) (l .got) b) (came ∷ h)
+    came-started st e =
+        let f : fromStart (since (came ∷ h)) ≡ b ∷ [] =
+        ap fromStart came-since ∙ start-next (since h) b (st .none) ∙ cond-true (b ∷ []) [] (holds-true (same b 0x02) e) in
+        record {
+          live = came-open ∙ st .live;
+          size = ap length f;
+          filled =
+              ap₂ (λ (x : List ℕ) (n : ℕ). set x n b) (st .clean) (st .nothing)
+              ∙ store-more [] b storeSize (lit≤ tt)
+              ∙ ap (λ (g : List ℕ). g ++ replicate (storeSize - 1) 0) (sym f);
+          least = lit≤ tt;
+          less = lit≤ tt;
+          most = lit≤ tt;
+          untold = λ u. refl;
+          named = λ u. absurd (omega arith);
+          sized = λ u. absurd (omega arith);
+          bytes = subst Bytes (sym f) (bytes-more [] b (λ i. lit≤ tt) small);
+          bound = came-fewer (st .bound);
+        }
+
+    module _ (st : Gathering l (s .store) h) where
+      abbrev before : List ℕ
+      before = fromStart (since h)
+
+      came-from : fromStart (since h ++ (b ∷ [])) ≡ before ++ (b ∷ [])
+      came-from = start-more (since h) (b ∷ []) (omega (arith, st .size, st .least))
+
+      came-size : length (before ++ (b ∷ [])) ≡ l .got + 1
+      came-size = length-append before (b ∷ []) ∙ ap (λ (n : ℕ). n + 1) (st .size)
+
+      came-filled : set (s .store) (l .got) b ≡ (before ++ (b ∷ [])) ++ replicate (storeSize - l .got - 1) 0
+      came-filled =
+          ap₂ (λ (x : List ℕ) (n : ℕ). set x n b) (st .filled) (sym (st .size))
+          ∙ store-more before b (storeSize - l .got) (omega (arith, st .less, st .most))
+
+      came-bytes : Bytes (before ++ (b ∷ []))
+      came-bytes = bytes-more before b (st .bytes) small
+
+      -- the second byte is the address
+      came-named : (l .got ≡ 1 → b ≡ 0x03) → 1 ≤ l .got → getD (before ++ (b ∷ [])) 1 0 ≡ 0x03
+      came-named address h =
+          by-cases (same (l .got) 1)
+          (λ g. getD-at before b [] 0 1 (st .size ∙ g) ∙ address g)
+          (λ n. List·getD-append before (b ∷ []) 0 1 (omega (arith, n, st .size)) ∙ st .named (omega (arith, n)))
+
+      -- one byte more of an answer
+      came-kept : (n want : ℕ) → n ≡ l .got + 1 → n < want → want ≤ storeSize → (n ≤ 2 → want ≡ storeSize) → (n ≡ 2 → b ≡ 0x03)
+          → (3 ≤ n → getD (before ++ (b ∷ [])) 2 0 ≡ want) → Gathering (inside l (l .left) n want) (set (s .store) (l .got) b) (came ∷ h)
+      came-kept n want e less most untold address sized =
+          let f : fromStart (since (came ∷ h)) ≡ before ++ (b ∷ []) = ap fromStart came-since ∙ came-from in
+          let m : storeSize - l .got - 1 ≡ storeSize - n = omega arith in
+          record {
+            live = came-open ∙ st .live;
+            size = ap length f ∙ came-size ∙ sym e;
+            filled = came-filled ∙ ap₂ (λ (g : List ℕ) (j : ℕ). g ++ replicate j 0) (sym f) m;
+            least = omega arith;
+            less = less;
+            most = most;
+            untold = untold;
+            named = λ u. ap (λ (x : List ℕ). getD x 1 0) f ∙ came-named (λ g. address (omega arith)) (omega arith);
+            sized = λ u. ap (λ (x : List ℕ). getD x 2 0) f ∙ sized u;
+            bytes = subst Bytes (sym f) came-bytes;
+            bound = came-fewer (st .bound);
+          }
+
+      -- the last one: what is judged is what came since 02h
+      came-full : l .want ≡ l .got + 1 → take (l .want) (set (s .store) (l .got) b) ≡ fromStart (since h ++ (b ∷ []))
+      came-full e =
+          ap (take (l .want)) came-filled
+          ∙ take-at (before ++ (b ∷ [])) (replicate (storeSize - l .got - 1) 0) (l .want) (came-size ∙ sym e)
+          ∙ sym came-from
+
+    -- ---- a byte, by where the line stands
+
+    module _ (r : List ℕ) where
+      -- what a turn of the line leads to
+      abbrev After : Turn → Type 0
+      After t = Next s h (hears b) (byteActed (t .todo) (t .line) (l .want) (s .store) (l .got) b r)
+
+      after-idle : l .phase ≡ Idle → Resting l (s .store) h → Next s h (hears b) (acted Nothing (still l quiet) (s .store) r)
+      unfolding bookedBy
+      after-idle p st =
+          record {
+            base = came-base (still l quiet) refl refl refl;
+            stands = subst (λ (q : Phase). Stands q (still l quiet) (s .store) (came ∷ h)) (sym p) (came-resting st);
+            truly = came-truly;
+          }
+
+      after-start : l .phase ≡ Start → Awaiting l (s .store) h → After (startByte l b)
+      unfolding startByte bookedBy
+      after-start p st =
+          pick After (same b 0x02) _ _
+          (λ e. record { base = came-base (inside l frameWait 1 storeSize) refl refl refl; stands = came-started st e; truly = came-truly })
+          (λ n.
+          record {
+            base = came-base (still l (l .left)) refl refl refl;
+            stands = subst (λ (q : Phase). Stands q (still l (l .left)) (s .store) (came ∷ h)) (sym p) (came-skipped st n);
+            truly = came-truly;
+          })
+
+      module _ (st : Gathering l (s .store) h) where
+        kept : (n want : ℕ) → n ≡ l .got + 1 → n < want → want ≤ storeSize → (n ≤ 2 → want ≡ storeSize) → (n ≡ 2 → b ≡ 0x03)
+            → (3 ≤ n → getD (before st ++ (b ∷ [])) 2 0 ≡ want) → Next s h (hears b) (byteActed Keep (inside l (l .left) n want) (l .want) (s .store) (l .got) b r)
+        unfolding bookedBy
+        kept n want e less most untold address sized =
+            record {
+              base = came-base (inside l (l .left) n want) refl refl refl;
+              stands = came-kept st n want e less most untold address sized;
+              truly = came-truly;
+            }
+
+        after-address : l .got ≡ 1 → After (addressByte l b)
+        unfolding addressByte
+        after-address g =
+            pick After (same b _) _ _
+            (λ e. kept 2 (l .want) (omega arith) (omega (arith, st .untold (omega arith))) (st .most) (λ u. st .untold (omega arith)) (λ u. omega (arith, e)) (λ u. absurd (omega arith)))
+            (λ n.
+            heard-damaged (st .bound) (st .live) r b
+            (subst (Says damaged) (sym (came-from st))
+            (wrong-address (before st ++ (b ∷ [])) (omega (arith, came-size st)) (λ f. let is = sym (getD-at (before st) b [] 0 1 (st .size ∙ g)) ∙ f in n (omega (arith, is))))))
+
+        after-length : l .got ≡ 2 → After (lengthByte l b)
+        unfolding lengthByte
+        after-length g =
+            pick After (under b 6) _ _
+            (λ e.
+            heard-damaged (st .bound) (st .live) r b
+            (subst (Says damaged) (sym (came-from st))
+            (wrong-length (before st ++ (b ∷ [])) (omega (arith, came-size st)) (omega (arith, e, sizing)))))
+            (λ n. kept 3 b (omega arith) (omega (arith, least n)) (omega arith) (λ u. absurd (omega arith)) (λ u. absurd (omega arith)) (λ u. sizing))
+          where
+            sizing : getD (before st ++ (b ∷ [])) 2 0 ≡ b
+            sizing = getD-at (before st) b [] 0 2 (st .size ∙ g)
+
+            least : (b < 6 → ⊥) → 6 ≤ b
+            least n = omega arith
+
+        after-further : (l .got ≡ 1 → ⊥) → (l .got ≡ 2 → ⊥) → After (furtherByte l)
+        unfolding furtherByte judgeStep
+        after-further g f =
+            pick After (under (l .got + 1) (l .want)) _ _
+            (λ e. kept (l .got + 1) (l .want) refl e (st .most) (λ u. absurd (omega (arith, st .least, g, f))) (λ u. absurd (omega (arith, g))) (λ u. sizing))
+            (λ n.
+            let whole = came-full st (omega (arith, st .less, n)) in
+            let is = whole ∙ came-from st in
+            heard-full (st .bound) (st .live) r b (take (l .want) (set (s .store) (l .got) b)) whole
+            (ap (λ (x : List ℕ). getD x 1 0) is ∙ came-named st (λ q. absurd (g q)) (st .least))
+            (subst Bytes (sym is) (came-bytes st))
+            (omega (arith, st .least, g, f, ap length is, came-size st))
+            (ap (λ (x : List ℕ). getD x 2 0) is ∙ sizing ∙ omega (arith, st .less, n, ap length is, came-size st)))
+          where
+            sizing : getD (before st ++ (b ∷ [])) 2 0 ≡ l .want
+            sizing = List·getD-append (before st) (b ∷ []) 0 2 (omega (arith, st .least, st .size, g, f)) ∙ st .sized (omega (arith, st .least, g, f))
+
+        after-inside : After (gathered l b)
+        unfolding gathered
+        after-inside =
+            pick After (same (l .got) 1) _ _ after-address
+            (λ n. pick After (same (l .got) 2) _ _ after-length (λ m. after-further n m))
+
+      after-heard : After (heard l b)
+      unfolding heard
+      after-heard = by (l .phase) refl (k .stands)
+        where
+          by : (p : Phase) → l .phase ≡ p → Stands p l (s .store) h → After (heardIn p l b)
+          by Idle e st = after-idle e st
+          by Start e st = after-start e st
+          by Inside e st = after-inside st
+
+  -- ---- a tick
+
+  module _ (ms : ℕ) where
+    abbrev went : Event Request Ending
+    went = done (waits ms) [] goes-on
+
+    went-base : (m : Line) → m .accepted ≡ l .accepted → m .code ≡ l .code → m .last ≡ l .last → Base m (s .bills) (went ∷ h)
+    unfolding accepted lastCode
+    went-base m ma mc ml = same-base l m (s .bills) h (k .base) ma mc ml went refl refl refl
+
+    went-since : since (went ∷ h) ≡ since h
+    unfolding since isFrame
+    went-since = append-nil (since h)
+
+    went-truly : Truly (went ∷ h)
+    unfolding Truly
+    went-truly = (tt, k .truly)
+
+    went-open : isOpen (went ∷ h) ≡ isOpen h
+    unfolding isOpen
+    went-open = refl
+
+    went-fewer : Fewer h → Fewer (went ∷ h)
+    unfolding accepted
+    went-fewer f = fewer-still went h refl refl f
+
+    -- the wait goes on, or the quiet time is complete
+    went-stands : (left : ℕ) → (left ≡ l .left - ms) → (p : Phase) → Stands p l (s .store) h → Stands p (still l left) (s .store) (went ∷ h)
+    unfolding isOpen quietTime accepted
+    went-stands left e Idle st =
+        record { shut = st .shut; clean = st .clean; missing = omega (arith, st .missing); bound = few-still went h refl refl (st .bound) }
+    went-stands left e Start st =
+        record {
+          live = went-open ∙ st .live;
+          none = ap fromStart went-since ∙ st .none;
+          clean = st .clean;
+          nothing = st .nothing;
+          bound = went-fewer (st .bound);
+        }
+    went-stands left e Inside st =
+        record {
+          live = went-open ∙ st .live;
+          size = ap (λ (x : List ℕ). length (fromStart x)) went-since ∙ st .size;
+          filled = st .filled ∙ ap (λ (x : List ℕ). fromStart x ++ replicate (storeSize - l .got) 0) (sym went-since);
+          least = st .least;
+          less = st .less;
+          most = st .most;
+          untold = st .untold;
+          named = λ u. ap (λ (x : List ℕ). getD (fromStart x) 1 0) went-since ∙ st .named u;
+          sized = λ u. ap (λ (x : List ℕ). getD (fromStart x) 2 0) went-since ∙ st .sized u;
+          bytes = subst (λ (x : List ℕ). Bytes (fromStart x)) (sym went-since) (st .bytes);
+          bound = went-fewer (st .bound);
+        }
+
+    module _ (r : List ℕ) where
+      abbrev Passed-by : Turn → Type 0
+      Passed-by t = Next s h (waits ms) (acted (t .todo) (t .line) (s .store) r)
+
+      goes : (left : ℕ) → left ≡ l .left - ms → Next s h (waits ms) (acted Nothing (still l left) (s .store) r)
+      unfolding bookedBy
+      goes left e =
+          record {
+            base = went-base (still l left) refl refl refl;
+            stands = went-stands left e (l .phase) (k .stands);
+            truly = went-truly;
+          }
+
+      after-expired : l .left ≤ ms → Passed-by (expired l)
+      unfolding expired
+      after-expired e = by (l .phase) refl (k .stands)
+        where
+          by : (p : Phase) → l .phase ≡ p → Stands p l (s .store) h → Passed-by (expiredIn p l)
+          by Idle q st = goes 0 (omega arith)
+          by Start q st = waited-silent (st .bound) (st .live) r ms (st .none)
+          by Inside q st = waited-damaged (st .bound) (st .live) r ms (λ z. omega (arith, ap length z, st .size, st .least))
+
+      after-passed : Passed-by (passed l ms)
+      unfolding passed
+      after-passed = pick Passed-by (under ms (l .left)) _ _ (λ e. goes (l .left - ms) refl) (λ n. after-expired (omega (arith, n)))
+
+  -- ---- a request
+
+  module _ (code : ℕ) (given r : List ℕ) where
+    abbrev sent-frame : List ℕ
+    sent-frame = frame 0x03 (code ∷ given)
+
+    abbrev wrote : Event Request Ending
+    wrote = done (asks (record { code = code; given = given })) (take (length sent-frame) (over sent-frame r)) goes-on
+
+    wrote-since : since (wrote ∷ h) ≡ []
+    unfolding since isFrame
+    wrote-since =
+        rw (take-over sent-frame r) (rw (lt-ltb 1 (length sent-frame) (omega (arith, frame-length 0x03 (code ∷ given)))))
+
+    -- nothing was open
+    resting : (p : Phase) → (openIn p ≡ true → ⊥) → Stands p l (s .store) h → Resting l (s .store) h
+    resting Idle n st = st
+    resting Start n st = absurd (n refl)
+    resting Inside n st = absurd (n refl)
+
+    wrote-agrees : Resting l (s .store) h → l .accepted < commandLimit
+        → Agrees (record { line = opened l code (l .accepted + 1); bills = s .bills; store = s .store }) (wrote ∷ h)
+    unfolding isOpen accepted lastCode reported counted classOf fromStart Truly
+    wrote-agrees st f =
+        record {
+          base =
+              record {
+                accepted-is = ap (λ (n : ℕ). n + 1) (k .base .accepted-is);
+                few = omega arith;
+                code-is = refl;
+                last-is = k .base .last-is;
+                many = k .base .many;
+                counts = k .base .counts;
+              };
+          stands =
+              record {
+                live = refl;
+                none = ap fromStart wrote-since;
+                clean = st .clean;
+                nothing = refl;
+                bound = λ y small. omega (arith, st .bound y small);
+              };
+          truly = (tt, k .truly);
+        }
+
+-- ---- the calls
+
+module _ (s : Session) (h : Past) (k : Agrees s h) where
+  -- a call that was declined
+  declined-stands : (p : Phase) → Stands p (s .line) (s .store) h → Stands p (s .line) (s .store) (declined ∷ h)
+  unfolding isOpen quietTime accepted since counted classOf
+  declined-stands Idle st = record { shut = st .shut; clean = st .clean; missing = st .missing; bound = st .bound }
+  declined-stands Start st =
+      record { live = st .live; none = st .none; clean = st .clean; nothing = st .nothing; bound = st .bound }
+  declined-stands Inside st =
+      record {
+        live = st .live;
+        size = st .size;
+        filled = st .filled;
+        least = st .least;
+        less = st .less;
+        most = st .most;
+        untold = st .untold;
+        named = st .named;
+        sized = st .sized;
+        bytes = st .bytes;
+        bound = st .bound;
+      }
+
+  declined-agrees : Agrees s (declined ∷ h)
+  unfolding accepted lastCode reported counted classOf Truly
+  declined-agrees =
+      record {
+        base =
+            record {
+              accepted-is = k .base .accepted-is;
+              few = k .base .few;
+              code-is = k .base .code-is;
+              last-is = k .base .last-is;
+              many = k .base .many;
+              counts = k .base .counts;
+            };
+        stands = declined-stands (s .line .phase) (k .stands);
+        truly = k .truly;
+      }
+
+  request-agrees : (code : ℕ) (given r : List ℕ)
+      → Agrees (sessionRequest s code given r .session) (seen s (request code given r) ∷ h)
+  unfolding sessionRequest requestStep requestRefusals
+  request-agrees code given r =
+      either-way
+      (λ (w : StepAfter).
+      Agrees (record { line = w .step .line; bills = s .bills; store = s .store })
+      (told (asks (record { code = code; given = given })) (w .step .reply) (w .room) ∷ h))
+      (requestRefusals (s .line) code given r) (λ why. stepAfter (refusedStep (s .line) why) r) _
+      (λ why. declined-agrees)
+      (λ n.
+      wrote-agrees s h k code given r (resting s h k code given r (s .line .phase) (n .1 .1 .0) (k .stands)) (omega (arith, n .1 .1 .1 .1 .0)))
+
+  byte-agrees : (b : ℕ) (small : b < 256) (r : List ℕ) → Agrees (sessionByte s b r .session) (seen s (byte b small r) ∷ h)
+  unfolding sessionByte byteStep bookedBy
+  byte-agrees b small r =
+      either-way (Next s h (hears b)) (byteRefusals r) (λ why. lentAfter (refusedStep (s .line) why) (s .store) r) _
+      (λ why. declined-agrees)
+      (λ n. after-heard s h k b small r)
+
+  tick-agrees : (ms : ℕ) (r : List ℕ) → Agrees (sessionTick s ms r .session) (seen s (tick ms r) ∷ h)
+  unfolding sessionTick tickStep bookedBy
+  tick-agrees ms r =
+      either-way (Next s h (waits ms)) (tickRefusals ms r) (λ why. lentAfter (refusedStep (s .line) why) (s .store) r) _
+      (λ why. declined-agrees)
+      (λ n. after-passed s h k ms r)
+
+called-agrees : (s : Session) (h : Past) (c : Call) → Agrees s h → Agrees (called s c .session) (seen s c ∷ h)
+called-agrees s h (request code given r) k = request-agrees s h k code given r
+called-agrees s h (byte b small r) k = byte-agrees s h k b small r
+called-agrees s h (tick ms r) k = tick-agrees s h k ms r
+
+fresh-agrees : Agrees freshSession []
+unfolding freshSession isOpen quietTime accepted lastCode reported counted classOf Truly
+fresh-agrees =
+    record {
+      base =
+          record {
+            accepted-is = refl;
+            few = lit≤ tt;
+            code-is = refl;
+            last-is = refl;
+            many = length-replicate {A = Bills} types (bills 0);
+            counts = λ y small. ap (λ (x : Bills). x .0) (getD-replicate types y (bills 0) (bills 0) small);
+          };
+      stands = record { shut = refl; clean = refl; missing = refl; bound = λ y small. lit≤ tt };
+      truly = tt;
+    }
+
+-- after any calls at all
+run-agrees : (s : Session) (h : Past) (cs : List Call) → Agrees s h → Agrees (run s cs) (historyFrom s h cs)
+unfolding run historyFrom
+run-agrees s h [] k = k
+run-agrees s h (c ∷ cs) k = run-agrees (called s c .session) (seen s c ∷ h) cs (called-agrees s h c k)
+
+always-agrees : (cs : List Call) → Agrees (run freshSession cs) (history cs)
+always-agrees cs = run-agrees freshSession [] cs fresh-agrees
+
+-- ---- what is promised
+
+-- no more bills of a type than commands accepted
+few-is : (l : Line) (store : List ℕ) (h : Past) (p : Phase) → Stands p l store h → (y : ℕ) → y < types → counted y h ≤ accepted h
+few-is l store h Idle st y small = st .bound y small
+few-is l store h Start st y small = omega (arith, st .bound y small)
+few-is l store h Inside st y small = omega (arith, st .bound y small)
+
+-- the store, by where the line stands
+store-is : (l : Line) (store : List ℕ) (h : Past) (p : Phase) → Stands p l store h
+    → store ≡ so-far h ++ replicate (storeSize - length (so-far h)) 0
+store-is l store h Idle st = rw (st .shut) (st .clean)
+store-is l store h Start st = rw (st .live) (rw (st .none) (st .clean))
+store-is l store h Inside st = rw (st .live) (rw (st .size) (st .filled))
+
+pub kept-by-history : KeptByHistory
+kept-by-history =
+    record {
+      bills = λ cs. always-agrees cs .base .counts;
+      few = λ cs y small.
+          let s = run freshSession cs in
+          let k = always-agrees cs in
+          omega (
+            arith,
+            few-is (s .line) (s .store) (history cs) (s .line .phase) (k .stands) y small,
+            k .base .accepted-is,
+            k .base .few,
+          );
+      store = λ cs.
+          let s = run freshSession cs in
+          store-is (s .line) (s .store) (history cs) (s .line .phase) (always-agrees cs .stands);
+      closings = λ cs. always-agrees cs .truly;
+    }
+
+-- ---- the numbers of a request
+
+-- whether a command is open
+phase-told : (l : Line) (store : List ℕ) (h : Past) (p : Phase) → Stands p l store h → openIn p ≡ isOpen h
+phase-told l store h Idle st = sym (st .shut)
+phase-told l store h Start st = sym (st .live)
+phase-told l store h Inside st = sym (st .live)
+
+-- with nothing open, how much quiet is missing
+missing-told : (l : Line) (store : List ℕ) (h : Past) (p : Phase) → Stands p l store h → (isOpen h ≡ true → ⊥) → l .left ≡ quiet - quietTime h
+missing-told l store h Idle st n = st .missing
+missing-told l store h Start st n = absurd (n (st .live))
+missing-told l store h Inside st n = absurd (n (st .live))
+
+module _ (s : Session) (h : Past) (k : Agrees s h) (code : ℕ) (given r : List ℕ) where
+  refusals-alike : Alike (requestRefusals (s .line) code given r) (historyRefusals h code given r)
+  unfolding requestRefusals
+  refusals-alike =
+      let o = phase-told (s .line) (s .store) h (s .line .phase) (k .stands) in
+      let m = missing-told (s .line) (s .store) h (s .line .phase) (k .stands) in (
+        refl,
+        (
+          (λ f. f, λ f. f),
+          λ n0. (
+            refl,
+            (
+              (λ f. f, λ f. f),
+              λ n1. (
+                refl,
+                (
+                  (λ f. sym o ∙ f, λ f. o ∙ f),
+                  λ shut.
+                      let left = m (λ f. shut (o ∙ f)) in (
+                        refl,
+                        (
+                          (λ f. omega (arith, left), λ f. omega (arith, left)),
+                          λ n3.
+                              (refl, ((λ f. omega (arith, k .base .accepted-is), λ f. omega (arith, k .base .accepted-is)), λ n4. tt)),
+                        ),
+                      ),
+                ),
+              ),
+            ),
+          ),
+        ),
+      )
+
+pub declines-by-history : DeclinesByHistory
+declines-by-history cs code given r =
+    let s = run freshSession cs in
+    given-alike (exactly-when .request s code given r) (refusals-alike s (history cs) (always-agrees cs) code given r) refl

@@ -1,0 +1,7 @@
+-- The laws of `validator_rules`.
+pub mod Sending
+pub mod Reading
+pub mod Exact
+pub mod Past
+pub mod Booking
+pub mod Agreeing

@@ -1,0 +1,224 @@
+-- The validator session, call by call (01, "The validator session" and "Numbers a call can answer").
+use Prim.Native.Nat.{ℕ, _+_}
+use mathlib.Core.List.{List, [], _∷_}
+use lib.ListN.{length, take, set, replicate}
+use Rattle.numbers.specs.Rules.{Condition, Rule, says, under, atMost, within, same, either, both, isnt, judged, _gives_}
+use Rattle.numbers.specs.Put.{over}
+use Rattle.ccnet_frame.specs.Frame.{frame, judgeFrame, bodyOf}
+use Rattle.ccnet_frame.specs.Class.{classOf}
+use Rattle.ccnet_frame.specs.declared.frame.Judged.{Judged}
+use Rattle.ccnet_frame.specs.declared.frame.Judged.the-variants.{Good as Passed, Refused as Failed}
+use Rattle.ccnet_frame.specs.declared.class.Class.{Class}
+use Rattle.ccnet_frame.specs.declared.class.Class.the-variants.{Ack, Nak, Illegal as NotLegal, State, Busy, Rejecting, Failing, Escrow, Stacked, Returned, Unknown}
+use Rattle.validator_rules.specs.Limits.{leastRoom, commandLimit, storeSize, types, longestTick}
+use Rattle.validator_rules.specs.Line.{freshLine, opened, remembers, isOpen, heard, passed}
+use Rattle.validator_rules.specs.Bills.{poll, noBills, bookedBy, credited, remembered}
+use Rattle.validator_rules.specs.declared.line.Line.{Line}
+use Rattle.validator_rules.specs.declared.line.Todo.{Todo}
+use Rattle.validator_rules.specs.declared.line.Todo.the-variants.{Nothing as Rest, Keep, Judge, Damage, Silence}
+use Rattle.ledger.specs.declared.Declined.{Declined}
+use Rattle.ledger.specs.declared.Declined.the-variants.{Room, Range, Open, Unquiet, Spent, Tick}
+use Rattle.validator_rules.specs.declared.session.Closing.{Closing}
+use Rattle.validator_rules.specs.declared.session.Closing.the-variants.{Nothing, Acknowledged, Refused as GaveUp, Illegal, Answered, Damaged, Silent}
+use Rattle.validator_rules.specs.declared.session.Reply.{Reply}
+use Rattle.validator_rules.specs.declared.session.Reply.the-variants.{Refused, Done}
+use Rattle.validator_rules.specs.declared.session.Found.{Found}
+use Rattle.validator_rules.specs.declared.session.Found.the-variants.{Bad, Good}
+use Rattle.validator_rules.specs.declared.session.Step.{Step}
+use Rattle.validator_rules.specs.declared.session.Session.{Session}
+use Rattle.validator_rules.specs.declared.session.Outcome.{Outcome}
+
+-- "Commands (003): RESET 30h, POLL 33h, ENABLE BILL TYPES 34h with 6 data bytes, STACK 35h, RETURN 36h, HOLD 38h", and no data where none
+-- belongs
+unfoldable pub isCommand : ℕ → ℕ → Condition
+isCommand code size =
+    either (both (same code 0x34) (same size 6))
+    (both
+    (either (same code 0x30) (either (same code poll) (either (same code 0x35) (either (same code 0x36) (same code 0x38)))))
+    (same size 0))
+
+-- ---- what a call leaves
+
+-- done, with nothing credited
+abbrev pub stepped : Line → ℕ → Closing → Step
+stepped l n c = record { line = l; bill = types; reply = Done n c }
+
+abbrev pub refusedStep : Line → Declined → Step
+refusedStep l why = record { line = l; bill = types; reply = Refused why }
+
+-- a step, with every byte of the room afterwards
+pub record StepAfter : Type 0 where
+  pub step : Step
+  pub room : List ℕ
+
+abbrev pub stepAfter : Step → List ℕ → StepAfter
+stepAfter s r = record { step = s; room = r }
+
+-- and every byte of the gathering store
+pub record LentAfter : Type 0 where
+  pub step : Step
+  pub store : List ℕ
+  pub room : List ℕ
+
+abbrev pub lentAfter : Step → List ℕ → List ℕ → LentAfter
+lentAfter s store r = record { step = s; store = store; room = r }
+
+-- the session, what the call answers, and every byte of the room
+pub record After : Type 0 where
+  pub session : Session
+  pub reply : Reply
+  pub room : List ℕ
+
+abbrev pub after : Outcome → List ℕ → After
+after o r = record { session = o .session; reply = o .reply; room = r }
+
+-- ---- what is sent
+
+-- bytes put at the room's start, with the room as it is left
+pub record Sent : Type 0 where
+  pub put : ℕ
+  pub room : List ℕ
+
+abbrev pub sent : ℕ → List ℕ → Sent
+sent n r = record { put = n; room = r }
+
+abbrev pub sending : List ℕ → List ℕ → Sent
+sending bytes r = sent (length bytes) (over bytes r)
+
+-- "a NAK frame", "an ACK frame"
+abbrev pub ack : List ℕ
+ack = frame 0x03 (0x00 ∷ [])
+
+abbrev pub nak : List ℕ
+nak = frame 0x03 (0xFF ∷ [])
+
+-- ---- a frame that is judged
+
+-- a good frame says what its body says; any other is bad
+abbrev pub foundIn : Judged → List ℕ → Found
+foundIn (Passed address) s = Good (classOf (bodyOf s))
+foundIn (Failed fault) s = Bad
+
+unfoldable pub found : List ℕ → Found
+found s = foundIn (judgeFrame s) s
+
+-- "The gathering store is 255 bytes, all zero when fresh and again after each closing."
+abbrev pub zeros : List ℕ
+zeros = replicate storeSize 0
+
+-- "a wrong check or a late frame sends a NAK frame and closes as damaged"
+unfoldable pub damagedStep : Line → List ℕ → LentAfter
+damagedStep l r = lentAfter (stepped l (length nak) Damaged) zeros (over nak r)
+
+-- "close without a reply"
+abbrev pub closedStep : Line → Closing → List ℕ → LentAfter
+closedStep l c r = lentAfter (stepped l 0 c) zeros r
+
+-- "any other body gets an ACK frame"
+unfoldable pub answeredStep : Line → Class → List ℕ → LentAfter
+answeredStep l c r =
+    lentAfter
+    (record { line = remembers l (remembered (l .code) (l .last) c); bill = credited (l .code) (l .last) c; reply = Done (length ack) (Answered c) })
+    zeros (over ack r)
+
+-- "ACK, NAK and 'illegal' close without a reply; any other body gets an ACK frame."
+abbrev pub classStep : Class → Line → List ℕ → LentAfter
+classStep Ack l r = closedStep l Acknowledged r
+classStep Nak l r = closedStep l GaveUp r
+classStep NotLegal l r = closedStep l Illegal r
+classStep (State b) l r = answeredStep l (State b) r
+classStep (Busy b) l r = answeredStep l (Busy b) r
+classStep (Rejecting b) l r = answeredStep l (Rejecting b) r
+classStep (Failing b) l r = answeredStep l (Failing b) r
+classStep (Escrow y) l r = answeredStep l (Escrow y) r
+classStep (Stacked y) l r = answeredStep l (Stacked y) r
+classStep (Returned y) l r = answeredStep l (Returned y) r
+classStep Unknown l r = answeredStep l Unknown r
+
+abbrev pub judgedStep : Found → Line → List ℕ → LentAfter
+judgedStep Bad l r = damagedStep l r
+judgedStep (Good c) l r = classStep c l r
+
+-- the frame is the first so many bytes of the store
+unfoldable pub judgeStep : Line → ℕ → List ℕ → List ℕ → LentAfter
+judgeStep l want store r = judgedStep (found (take want store)) l r
+
+-- ---- bytes and ticks
+
+-- what the line says is to be done, but for bytes of an answer
+abbrev pub acted : Todo → Line → List ℕ → List ℕ → LentAfter
+acted Rest l store r = lentAfter (stepped l 0 Nothing) store r
+acted Keep l store r = lentAfter (stepped l 0 Nothing) store r
+acted Judge l store r = lentAfter (stepped l 0 Nothing) store r
+acted Damage l store r = damagedStep l r
+acted Silence l store r = closedStep l Silent r
+
+-- what the line says of a byte b whose place in the store is at, inside an answer of so many bytes
+abbrev pub byteActed : Todo → Line → ℕ → List ℕ → ℕ → ℕ → List ℕ → LentAfter
+byteActed Rest l want store at b r = acted Rest l store r
+byteActed Keep l want store at b r = lentAfter (stepped l 0 Nothing) (set store at b) r
+byteActed Judge l want store at b r = judgeStep l want (set store at b) r
+byteActed Damage l want store at b r = acted Damage l store r
+byteActed Silence l want store at b r = acted Silence l store r
+
+-- "received bytes 1"
+unfoldable pub byteRefusals : List ℕ → List (Rule Declined)
+byteRefusals r = under (length r) leastRoom gives Room ∷ []
+
+unfoldable pub byteStep : Line → List ℕ → ℕ → List ℕ → LentAfter
+byteStep l store b r =
+    judged (byteRefusals r) (λ why. lentAfter (refusedStep l why) store r)
+    (byteActed (heard l b .todo) (heard l b .line) (l .want) store (l .got) b r)
+
+-- "ticks 1 and 6"
+unfoldable pub tickRefusals : ℕ → List ℕ → List (Rule Declined)
+tickRefusals ms r = under (length r) leastRoom gives Room ∷ isnt (within 1 longestTick ms) gives Tick ∷ []
+
+unfoldable pub tickStep : Line → List ℕ → ℕ → List ℕ → LentAfter
+tickStep l store ms r =
+    judged (tickRefusals ms r) (λ why. lentAfter (refusedStep l why) store r) (acted (passed l ms .todo) (passed l ms .line) store r)
+
+-- ---- requests
+
+-- "Requests can meet 1 to 5": "the lowest that applies is given"
+unfoldable pub requestRefusals : Line → ℕ → List ℕ → List ℕ → List (Rule Declined)
+requestRefusals l code given r =
+    under (length r) leastRoom gives Room
+    ∷ isnt (isCommand code (length given)) gives Range
+    ∷ says (isOpen (l .phase)) gives Open
+    ∷ under 0 (l .left) gives Unquiet
+    ∷ atMost commandLimit (l .accepted) gives Spent
+    ∷ []
+
+-- a request accepted: its frame is sent
+unfoldable pub requestStep : Line → ℕ → List ℕ → List ℕ → StepAfter
+requestStep l code given r =
+    let w = sending (frame 0x03 (code ∷ given)) r in
+    judged (requestRefusals l code given r) (λ why. stepAfter (refusedStep l why) r)
+    (stepAfter (stepped (opened l code (l .accepted + 1)) (w .put) Nothing) (w .room))
+
+-- ---- the session by value
+
+-- no bills, nothing open, no quiet yet, nothing remembered; "The gathering store is .. all zero when fresh"
+unfoldable pub freshSession : Session
+freshSession = record { line = freshLine; bills = noBills; store = zeros }
+
+-- the session after a step, with the bill that it credits
+abbrev pub afterStep : Session → LentAfter → After
+afterStep s w =
+    record {
+      session = record { line = w .step .line; bills = bookedBy (s .bills) (w .step .bill); store = w .store };
+      reply = w .step .reply;
+      room = w .room;
+    }
+
+unfoldable pub sessionRequest : Session → ℕ → List ℕ → List ℕ → After
+sessionRequest s code given r =
+    let w = requestStep (s .line) code given r in
+    record { session = record { line = w .step .line; bills = s .bills; store = s .store }; reply = w .step .reply; room = w .room }
+
+unfoldable pub sessionByte : Session → ℕ → List ℕ → After
+sessionByte s b r = afterStep s (byteStep (s .line) (s .store) b r)
+
+unfoldable pub sessionTick : Session → ℕ → List ℕ → After
+sessionTick s ms r = afterStep s (tickStep (s .line) (s .store) ms r)
