@@ -12,7 +12,7 @@ use dispenser_rules::Closing;
 use dispenser_rules::Reply;
 use dispenser_rules::Session;
 use exchange_rules::Sums;
-use numbers::Put;
+use refusals::Put;
 
 // What the line's second word tells, by its first letter.
 pub(crate) fn run(line: &[u8], session: Session) -> Session {
@@ -171,7 +171,7 @@ fn quietly(session: Session, lent: &mut [u8]) -> Session {
 
 fn show(reply: Reply, lent: &[u8]) {
     match reply {
-        Reply::Refused(why) => {
+        Reply::NotDone(why) => {
             sheet::print_text(b"   ");
             sheet::print_refused(why.number(), lent);
         }

@@ -12,7 +12,7 @@
 use dispenser_frame::Answer;
 use dispenser_frame::AnswerRead;
 use dispenser_frame::Cassette;
-use numbers::Put;
+use refusals::Put;
 
 // The answer that a line gives, with its fields in 01's order.
 pub(crate) fn given(line: &[u8]) -> Answer {

@@ -12,7 +12,7 @@
 ghost use Prim.Native.Nat.{_≤_};
 use ccnet_frame::Class;
 use ccnet_frame::Judged;
-use numbers::Put;
+use refusals::Put;
 
 // What the line's second word tells, by its first letter.
 pub(crate) fn run(line: &[u8]) {

@@ -5,7 +5,7 @@
 //     count codes that can be sent with upper 0 lower 0
 use dispenser_frame::CommandRead;
 use dispenser_frame::is_sendable;
-use numbers::Put;
+use refusals::Put;
 
 // A command's code and counts.
 fn show(code: u8, upper: u32, lower: u32) {

@@ -9,7 +9,7 @@
 use crate::answer_lines;
 use crate::command_lines;
 use crate::numbers_lines;
-use numbers::Put;
+use refusals::Put;
 
 // What is written or read.
 enum Kind {
@@ -68,7 +68,7 @@ fn put(kind: Kind, line: &[u8], room: &mut [u8]) -> Put {
     let n = sheet::number(line, 4);
     match kind {
         Kind::Groups => numbers::write_groups(n, room),
-        Kind::Decimal => numbers::write_decimal(n, room),
+        Kind::Decimal => numbers::write_decimal(n as u64, room),
         Kind::Digits => numbers_lines::put_digits(n, room),
         Kind::Command => command_lines::put(line, room),
         Kind::Answer => answer_lines::put(line, room),

@@ -6,12 +6,12 @@
 //     write two-digits, room 2: 5
 //     read two-digits, five: 30 35
 use numbers::Number;
-use numbers::Put;
 use numbers::Seven;
+use refusals::Put;
 
 // The digits of a count fill their room.
 pub(crate) fn put_digits(n: u32, room: &mut [u8]) -> Put {
-    numbers::put_digits(n, room);
+    numbers::put_digits(n as u64, room);
     Put::Bytes(room.len())
 }
 

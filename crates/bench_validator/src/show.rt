@@ -1,7 +1,7 @@
 // What a call of the validator session answered, and what the session keeps.
 ghost use Prim.Native.Nat.{_≤_};
 use ccnet_frame::Class;
-use numbers::Put;
+use refusals::Put;
 use validator_rules::Bills;
 use validator_rules::Closing;
 use validator_rules::Reply;
@@ -9,7 +9,7 @@ use validator_rules::Session;
 
 pub(crate) fn reply(reply: Reply, lent: &[u8]) {
     match reply {
-        Reply::Refused(why) => {
+        Reply::NotDone(why) => {
             sheet::print_text(b"   ");
             sheet::print_refused(why.number(), lent);
         }
@@ -31,8 +31,8 @@ fn closed(closing: Closing) {
     match closing {
         Closing::Nothing => {}
         Closing::Acknowledged => sheet::print_text(b"    closed, acknowledged\n"),
-        Closing::Refused => sheet::print_text(b"    closed, refused\n"),
-        Closing::Illegal => sheet::print_text(b"    closed, illegal\n"),
+        Closing::NotAcknowledged => sheet::print_text(b"    closed, refused\n"),
+        Closing::IllegalCommand => sheet::print_text(b"    closed, illegal\n"),
         Closing::Answered(class) => answered(class),
         Closing::Damaged => sheet::print_text(b"    closed, damaged\n"),
         Closing::Silent => sheet::print_text(b"    closed, silent\n"),

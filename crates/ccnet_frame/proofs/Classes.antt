@@ -7,8 +7,8 @@ use mathlib.Core.Logic.{_⊎_, inl, inr, ⊎-elim}
 use native.Mathlib.Omega.{arith}
 use lib.ListN.{length, getD}
 use borrow.Author.Tests.{ne-eqb}
-use Rattle.numbers.specs.Rules.{Condition, same, both}
-use Rattle.numbers.proofs.Rules.{by-cases, holds-true, fails-false, cond-true, cond-false}
+use Rattle.refusals.specs.Rules.{Condition, same, both}
+use Rattle.refusals.proofs.Rules.{by-cases, holds-true, fails-false, cond-true, cond-false}
 use Rattle.ccnet_frame.specs.Class.{isState, isRejection, isFailure, isType, oneByte, twoBytes, classOf, classBytes, isNamed}
 use Rattle.ccnet_frame.specs.Promises.{Classes}
 use Rattle.ccnet_frame.specs.declared.class.Class.{Class}

@@ -3,9 +3,9 @@ use Prim.Native.Nat.{ℕ}
 use mathlib.Core.Path.{_≡_, ap}
 use native.Mathlib.Omega.{arith}
 use lib.ListN.{getD}
-use Rattle.numbers.specs.Put.{refused, laid}
-use Rattle.numbers.specs.declared.Refusal.{Refusal}
-use Rattle.numbers.proofs.Rules.{exactly}
+use Rattle.refusals.specs.Put.{refused, laid}
+use Rattle.refusals.specs.declared.Refusal.{Refusal}
+use Rattle.refusals.proofs.Rules.{exactly}
 use Rattle.ccnet_frame.specs.Frame.{frame, frameRefusals, writeFrame, faults, judgeFrame}
 use Rattle.ccnet_frame.specs.Promises.{ExactlyWhen}
 use Rattle.ccnet_frame.specs.declared.frame.Judged.the-variants.{Good, Refused}

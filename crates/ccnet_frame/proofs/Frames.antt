@@ -6,9 +6,9 @@ use mathlib.Core.Logic.{⊎-elim}
 use native.Mathlib.Omega.{arith}
 use lib.ListN.{length, take, drop, getD, length-append, length-drop}
 use lib.Seq.{take-at, getD-append-add, drop-cons, drop-length, split-at, length-take-le}
-use Rattle.numbers.specs.Rules.{NoneOf, same, both}
-use Rattle.numbers.specs.Promises.{Bytes}
-use Rattle.numbers.proofs.Rules.{certain, first-judged, none-judged, first-or-none}
+use Rattle.refusals.specs.Rules.{NoneOf, same, both}
+use Rattle.numbers.specs.Promises.{AllBytes}
+use Rattle.refusals.proofs.Rules.{certain, first-judged, none-judged, first-or-none}
 use Rattle.ccnet_frame.specs.Check.{check}
 use Rattle.ccnet_frame.specs.Frame.{closed, frame, isAddress, faults, judgeFrame, bodyOf}
 use Rattle.ccnet_frame.specs.declared.frame.Judged.the-variants.{Good, Refused}
@@ -42,7 +42,7 @@ last-two s h =
     sym (split-at s i 0 (omega arith) ∙ rw end)
 
 -- and where the last two bytes say it, they are its two bytes
-closed-again : (s : List ℕ) → Bytes s → 2 ≤ length s
+closed-again : (s : List ℕ) → AllBytes s → 2 ≤ length s
     → check (take (length s - 2) s) ≡ getD s (length s - 2) 0 + 256 * getD s (length s - 1) 0 → closed (take (length s - 2) s) ≡ s
 unfolding closed
 closed-again s bytes h e =
@@ -126,7 +126,7 @@ module _ (s : List ℕ) (address : ℕ) (good : judgeFrame s ≡ Good address) w
   unfolding faults
   sized = certain (same (getD s 2 0) (length s)) (passed .none .1 .1 .0)
 
-  pub good-most : Bytes s → length s ≤ 255
+  pub good-most : AllBytes s → length s ≤ 255
   good-most bytes = omega (arith, sized, bytes 2)
 
   body-is : bodyOf s ≡ take (length s - 5) (drop 3 s)
@@ -143,7 +143,7 @@ module _ (s : List ℕ) (address : ℕ) (good : judgeFrame s ≡ Good address) w
       let i : length s - 2 ≡ suc (suc (suc (length s - 5))) = omega (arith, good-long) in
       ap₂ take i (three-bytes s (omega (arith, good-long))) ∙ rw (n, body-is, opening .0, passed .named)
 
-  pub good-frame : Bytes s → frame address (bodyOf s) ≡ s
+  pub good-frame : AllBytes s → frame address (bodyOf s) ≡ s
   unfolding frame faults
   good-frame bytes =
       let low = getD s (length s - 2) 0 in

@@ -6,7 +6,7 @@ use native.Mathlib.Numerals.{add-one}
 use native.Mathlib.Omega.{arith}
 use lib.ListN.{length, take, drop, set, length-append, take-append-drop}
 use lib.Seq.{drop-cons, drop-drop, drop-length, take-length, append-snoc, set-append-seam, take-append-seam, drop-append-seam}
-use Rattle.numbers.specs.Put.{over}
+use Rattle.refusals.specs.Put.{over}
 use Rattle.ccnet_frame.specs.Check.{check}
 use Rattle.ccnet_frame.specs.Frame.{closed}
 

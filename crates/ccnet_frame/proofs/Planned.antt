@@ -5,12 +5,12 @@ use mathlib.Core.List.{List, [], _∷_}
 use mathlib.Core.Logic.{inl, ⊎-elim}
 use native.Mathlib.Omega.{arith}
 use lib.ListN.{length}
-use Rattle.numbers.specs.Rules.{First, within}
-use Rattle.numbers.specs.Put.{written, writing, refused, laid, over}
-use Rattle.numbers.specs.declared.Put.the-variants.{Bytes, Refused}
-use Rattle.numbers.specs.declared.Refusal.{Refusal}
-use Rattle.numbers.specs.declared.Refusal.the-variants.{Range}
-use Rattle.numbers.proofs.Rules.{certain, exactly, first-judged, none-judged, first-or-none}
+use Rattle.refusals.specs.Rules.{First, within}
+use Rattle.refusals.specs.Put.{written, writing, refused, laid, over}
+use Rattle.refusals.specs.declared.Put.the-variants.{Bytes, Refused}
+use Rattle.refusals.specs.declared.Refusal.{Refusal}
+use Rattle.refusals.specs.declared.Refusal.the-variants.{Range}
+use Rattle.refusals.proofs.Rules.{certain, exactly, first-judged, none-judged, first-or-none}
 use Rattle.ccnet_frame.specs.Frame.{closed, frame, frameRefusals, writeFrame}
 use Rattle.ccnet_frame.specs.Parts.{sizeRefusals, planned}
 use Rattle.ccnet_frame.proofs.Frames.{frame-length}

@@ -4,8 +4,8 @@ use Prim.Native.Nat.{ℕ}
 use mathlib.Core.Path.{ap, ap₂}
 use mathlib.Core.List.{List}
 use denote.Ref.{now}
-use Rattle.numbers.specs.declared.Put.{Put}
-use Rattle.numbers.proofs.Tied.{Tied, tied}
+use Rattle.refusals.specs.declared.Put.{Put}
+use Rattle.refusals.proofs.Tied.{Tied, tied}
 use Rattle.ccnet_frame.proofs.check.check_of.Kinds as check-of
 use Rattle.ccnet_frame.proofs.check.check_of.Reads as check-of-reads
 use Rattle.ccnet_frame.proofs.class.classify.Kinds as classify

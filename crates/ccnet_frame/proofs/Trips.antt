@@ -4,13 +4,13 @@ use mathlib.Core.Path.{_≡_, ap, ap₂, _∙_}
 use mathlib.Core.List.{List, []}
 use native.Mathlib.Omega.{arith}
 use lib.ListN.{length, take}
-use Rattle.numbers.specs.Rules.{within}
-use Rattle.numbers.specs.Put.{written, refused, laid}
-use Rattle.numbers.specs.Promises.{Bytes}
-use Rattle.numbers.specs.declared.Put.the-variants.{Bytes as Put}
-use Rattle.numbers.specs.declared.Refusal.{Refusal}
-use Rattle.numbers.proofs.Rules.{certain, none-judged}
-use Rattle.numbers.proofs.Writing.{done-laid, take-over}
+use Rattle.refusals.specs.Rules.{within}
+use Rattle.refusals.specs.Put.{written, refused, laid}
+use Rattle.numbers.specs.Promises.{AllBytes}
+use Rattle.refusals.specs.declared.Put.the-variants.{Bytes}
+use Rattle.refusals.specs.declared.Refusal.{Refusal}
+use Rattle.refusals.proofs.Rules.{certain, none-judged}
+use Rattle.refusals.proofs.Writing.{done-laid, take-over}
 use Rattle.ccnet_frame.specs.Frame.{frame, isAddress, frameRefusals, writeFrame, judgeFrame, bodyOf}
 use Rattle.ccnet_frame.specs.Promises.{FrameTrips, BodyTells}
 use Rattle.ccnet_frame.specs.declared.frame.Judged.the-variants.{Good}
@@ -22,7 +22,7 @@ record Sent (address : ℕ) (body sent : List ℕ) : Type 0 where
   named : isAddress address .holds
   some : 1 ≤ length body
 
-put-sent : (address : ℕ) (body room after : List ℕ) (n : ℕ) → writeFrame address body room ≡ written (Put n) after
+put-sent : (address : ℕ) (body room after : List ℕ) (n : ℕ) → writeFrame address body room ≡ written (Bytes n) after
     → Sent address body (take n after)
 unfolding writeFrame frameRefusals
 put-sent address body room after n e =
@@ -33,7 +33,7 @@ put-sent address body room after n e =
       some = certain (within 1 250 (length body)) (d .none .0) .0;
     }
 
-again : (s room : List ℕ) (address : ℕ) → Bytes s → judgeFrame s ≡ Good address → length s ≤ length room
+again : (s room : List ℕ) (address : ℕ) → AllBytes s → judgeFrame s ≡ Good address → length s ≤ length room
     → writeFrame address (bodyOf s) room ≡ laid s room
 unfolding writeFrame frameRefusals
 again s room address bytes good fits =

@@ -1,7 +1,7 @@
 -- What an answer's body says (01, "CCNET frames").
 use Prim.Native.Nat.{ℕ}
 use mathlib.Core.List.{List, [], _∷_}
-use Rattle.numbers.specs.Rules.{Condition, always, never, same, within, both, either, firstOf, _gives_}
+use Rattle.refusals.specs.Rules.{Condition, always, never, same, within, both, either, firstOf, _gives_}
 use Rattle.ccnet_frame.specs.declared.class.Class.{Class}
 use Rattle.ccnet_frame.specs.declared.class.Class.the-variants.{Ack, Nak, Illegal, State, Busy, Rejecting, Failing, Escrow, Stacked, Returned, Unknown}
 

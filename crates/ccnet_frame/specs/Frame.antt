@@ -2,10 +2,11 @@
 use Prim.Native.Nat.{ℕ, _+_, _-_, _*_, _/_, _%_}
 use mathlib.Core.List.{List, [], _∷_, _++_}
 use lib.ListN.{length, getD, take, drop}
-use Rattle.numbers.specs.Rules.{Condition, Rule, under, same, within, isnt, both, judged, _gives_}
-use Rattle.numbers.specs.Put.{Written, refused, laid}
-use Rattle.numbers.specs.declared.Refusal.{Refusal}
-use Rattle.numbers.specs.declared.Refusal.the-variants.{Room, Range}
+use Rattle.refusals.specs.Numbers.{badLength, badOpening, badCheck}
+use Rattle.refusals.specs.Rules.{Condition, Rule, under, same, within, isnt, both, judged, _gives_}
+use Rattle.refusals.specs.Put.{Written, refused, laid}
+use Rattle.refusals.specs.declared.Refusal.{Refusal}
+use Rattle.refusals.specs.declared.Refusal.the-variants.{Room, Range}
 use Rattle.ccnet_frame.specs.Check.{check}
 use Rattle.ccnet_frame.specs.declared.frame.Fault.{Fault}
 use Rattle.ccnet_frame.specs.declared.frame.Fault.the-variants.{Length, Opening, Check}
@@ -14,9 +15,9 @@ use Rattle.ccnet_frame.specs.declared.frame.Judged.the-variants.{Good, R
 
 -- 01's number for each fault
 abbrev pub faultNumber : Fault → ℕ
-faultNumber Length = 11
-faultNumber Opening = 12
-faultNumber Check = 15
+faultNumber Length = badLength
+faultNumber Opening = badOpening
+faultNumber Check = badCheck
 
 -- bytes and their "two check bytes low byte first"
 unfoldable pub closed : List ℕ → List ℕ

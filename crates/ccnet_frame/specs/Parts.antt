@@ -1,11 +1,11 @@
 -- What the functions between the public ones do, in the terms of the definitions that the public ones meet.
 use Prim.Native.Nat.{ℕ, _+_}
 use mathlib.Core.List.{List, [], _∷_}
-use Rattle.numbers.specs.Rules.{Rule, under, within, isnt, judged, _gives_}
-use Rattle.numbers.specs.declared.Put.{Put}
-use Rattle.numbers.specs.declared.Put.the-variants.{Bytes, Refused}
-use Rattle.numbers.specs.declared.Refusal.{Refusal}
-use Rattle.numbers.specs.declared.Refusal.the-variants.{Room, Range}
+use Rattle.refusals.specs.Rules.{Rule, under, within, isnt, judged, _gives_}
+use Rattle.refusals.specs.declared.Put.{Put}
+use Rattle.refusals.specs.declared.Put.the-variants.{Bytes, Refused}
+use Rattle.refusals.specs.declared.Refusal.{Refusal}
+use Rattle.refusals.specs.declared.Refusal.the-variants.{Room, Range}
 use Rattle.ccnet_frame.specs.Frame.{isAddress}
 
 -- `frameRefusals` of a body of that size in a room of that size

@@ -4,10 +4,10 @@ use mathlib.Core.Path.{_≡_}
 use mathlib.Core.List.{List, []}
 use mathlib.Core.Logic.{_↔_}
 use lib.ListN.{length, getD, take}
-use Rattle.numbers.specs.Rules.{Exactly}
-use Rattle.numbers.specs.Put.{written, refused, laid}
-use Rattle.numbers.specs.Promises.{Bytes}
-use Rattle.numbers.specs.declared.Put.the-variants.{Bytes as Put}
+use Rattle.refusals.specs.Rules.{Exactly}
+use Rattle.refusals.specs.Put.{written, refused, laid}
+use Rattle.numbers.specs.Promises.{AllBytes}
+use Rattle.refusals.specs.declared.Put.the-variants.{Bytes}
 use Rattle.ccnet_frame.specs.Frame.{frame, frameRefusals, writeFrame, faults, judgeFrame, bodyOf}
 use Rattle.ccnet_frame.specs.Class.{classOf, classBytes, isNamed}
 use Rattle.ccnet_frame.specs.declared.frame.Fault.{Fault}
@@ -18,11 +18,11 @@ use Rattle.ccnet_frame.specs.declared.class.Class.the-variants.{Unknown}
 -- reading undoes writing, for every address and every body: what was put is good, with its address and its body. And whatever is good,
 -- written again with its address and its body, is the same bytes. A command's body is its code and data
 pub record FrameTrips : Type 0 where
-  pub good : (address : ℕ) (body room after : List ℕ) (n : ℕ) → writeFrame address body room ≡ written (Put n) after
+  pub good : (address : ℕ) (body room after : List ℕ) (n : ℕ) → writeFrame address body room ≡ written (Bytes n) after
       → judgeFrame (take n after) ≡ Good address
-  pub back : (address : ℕ) (body room after : List ℕ) (n : ℕ) → writeFrame address body room ≡ written (Put n) after
+  pub back : (address : ℕ) (body room after : List ℕ) (n : ℕ) → writeFrame address body room ≡ written (Bytes n) after
       → bodyOf (take n after) ≡ body
-  pub again : (s room : List ℕ) (address : ℕ) → Bytes s → judgeFrame s ≡ Good address → length s ≤ length room
+  pub again : (s room : List ℕ) (address : ℕ) → AllBytes s → judgeFrame s ≡ Good address → length s ≤ length room
       → writeFrame address (bodyOf s) room ≡ laid s room
 
 -- a good body is never empty, and a refused one always is: an empty part means refused

@@ -3,16 +3,16 @@ ghost use mathlib.Core.Path.{_≡_};
 ghost use mathlib.Core.List.{[], _∷_, _++_};
 ghost use Prim.Native.Nat.{_+_, _*_, _≤_};
 ghost use lib.ListN.{length};
-ghost use Rattle.numbers.specs.Put.{written, writing, over};
+ghost use Rattle.refusals.specs.Put.{written, writing, over};
 ghost use Rattle.ccnet_frame.specs.Check.{checkFrom};
 ghost use Rattle.ccnet_frame.specs.Frame.{faultNumber, closed, frame, isAddress, writeFrame, judgeFrame, bodyStart, bodySize};
 ghost use Rattle.ccnet_frame.specs.Part.{Part};
 ghost use Rattle.ccnet_frame.specs.Parts.{planned};
 use crate::check::check_of;
 use crate::check::with_byte;
-use numbers::Put;
-use numbers::Refusal;
 use numbers::byte_within;
+use refusals::Put;
+use refusals::Refusal;
 
 // The byte that every frame begins with.
 const START: u8 = 0x02;
@@ -41,9 +41,9 @@ impl Fault {
         ensures { λ r. ⌜ r ≡ faultNumber self ⌝ }
     {
         match self {
-            Fault::Length => 11,
-            Fault::Opening => 12,
-            Fault::Check => 15,
+            Fault::Length => refusals::LENGTH,
+            Fault::Opening => refusals::OPENING,
+            Fault::Check => refusals::CHECK,
         }
     }
 }

@@ -4,3 +4,4 @@ pub mod Shown
 pub mod Same
 pub mod Demand3
 pub mod Tied
+pub mod Steps

@@ -5,55 +5,52 @@ use mathlib.Core.Bool.{Bool, true, false, cond}
 use mathlib.Core.List.{List, [], _∷_}
 use lib.Dec.{eqb}
 use lib.ListN.{length, set, take}
-use Rattle.numbers.specs.Rules.{Rule, judged, same}
-use Rattle.numbers.proofs.Rules.{pick, either-way}
+use Rattle.refusals.specs.Rules.{Rule, judged, same}
+use Rattle.refusals.proofs.Rules.{pick, either-way}
 use Rattle.ledger.specs.Events.{Event, Deed, asks, hears, waits}
+use Rattle.ledger.specs.Calls.{After as AfterCall, gave, did, told, seen}
 use Rattle.ledger.specs.Account.{Ending}
-use Rattle.ledger.specs.declared.Declined.{Declined}
+use Rattle.refusals.specs.declared.Declined.{Declined}
 use Rattle.dispenser_frame.specs.Table.{answerLength}
 use Rattle.dispenser_frame.specs.Answer.{answerCode, readAnswer}
 use Rattle.dispenser_frame.specs.declared.answer.AnswerRead.{AnswerRead}
 use Rattle.dispenser_frame.specs.declared.answer.AnswerRead.the-variants.{Read, Refused as NotRead}
 use Rattle.exchange_rules.specs.Limits.{quiet}
 use Rattle.exchange_rules.specs.Exchange.{heard, badFrame, passed, closed}
-use Rattle.exchange_rules.specs.Machine.{Box, not-done, is-done, none, by-answer, by-refusal, by-doubt, Session as SessionOver, left}
+use Rattle.exchange_rules.specs.Machine.{Box, none, by-answer, by-refusal, by-doubt, left}
+use Rattle.exchange_rules.specs.Owed.{Session as SessionOver}
 use Rattle.exchange_rules.specs.Machine as machine
-use Rattle.exchange_rules.proofs.Closings.{Shut, bad-shut, heard-shut, passed-shut}
+use Rattle.exchange_rules.proofs.Closings.{Shut, ShutIn, bad-shut, heard-shut, passed-shut}
 use Rattle.exchange_rules.specs.declared.line.Line.{Line}
 use Rattle.exchange_rules.specs.declared.line.Todo.{Todo}
-use Rattle.exchange_rules.specs.declared.line.Todo.the-variants.{Nothing as Rest, Keep, Judge, HandOver, Nak, NakAndLose, Refuse, Lose}
+use Rattle.exchange_rules.specs.declared.line.Todo.the-variants.{Nothing as Rest, HandOver, Nak, LastNak, CloseRefused, CloseUnknown}
+use Rattle.exchange_rules.specs.declared.line.Heard.{Heard}
+use Rattle.exchange_rules.specs.declared.line.Heard.the-variants.{Keep, Judge, Do}
 use Rattle.dispenser_rules.specs.Session.{StepAfter, ByteAfter, OpeningAfter, After, openingAfter, refusedOpening, byteAfter, stepAfter, refusedStep, doneAfter, handOver, acted, badStep, judgedStep, judgeStep, byteActed, byteRefusals, tickRefusals, requestRefusals, byteStep, tickStep, requestStep, command, bookedBy, requestBooked, sessionRequest, sessionByte, sessionTick}
-use Rattle.dispenser_rules.specs.Calls.{Call, request, byte, tick, called}
-use Rattle.dispenser_rules.specs.History.{Request, told, seen, deed}
-use Rattle.dispenser_rules.specs.Unit.{Good, asked-of, verdict, unit}
+use Rattle.dispenser_rules.specs.Calls.{Call, request, byte, tick, called, Request, Own, deed, returned, ending, host}
+use Rattle.dispenser_rules.specs.Unit.{Good, asked-of, verdict, unit, request-of, box}
 use Rattle.dispenser_rules.specs.declared.account.Account.{Account}
 use Rattle.dispenser_rules.specs.declared.session.Asked.{Asked}
 use Rattle.dispenser_rules.specs.declared.session.Closing.{Closing}
-use Rattle.dispenser_rules.specs.declared.session.Closing.the-variants.{Nothing, Answered, Refused as GaveUp, Unknown}
+use Rattle.dispenser_rules.specs.declared.session.Closing.the-variants.{Nothing, Answered, Refused, Unknown}
 use Rattle.dispenser_rules.specs.declared.session.Reply.{Reply}
-use Rattle.dispenser_rules.specs.declared.session.Reply.the-variants.{Refused, Done}
+use Rattle.dispenser_rules.specs.declared.session.Reply.the-variants.{NotDone, Done}
 use Rattle.dispenser_rules.specs.declared.session.Session.{Session}
 
 -- ---- what the shared session has of it
 
-abbrev pub request-of : Asked → Request
-request-of a = record { code = a .code; upper = a .upper; lower = a .lower }
-
-abbrev pub box : Session → Box Request Account
-box s = record { line = s .line; asks = request-of (s .asked); account = s .account; store = s .store }
-
 abbrev pub plain-closing : Closing → machine.Closing Good
 plain-closing Nothing = none
 plain-closing (Answered answer listed) = by-answer (record { answer = answer; listed = listed })
-plain-closing GaveUp = by-refusal
+plain-closing Refused = by-refusal
 plain-closing Unknown = by-doubt
 
 abbrev pub plain-reply : Reply → machine.Reply Good
-plain-reply (Refused why) = not-done why
-plain-reply (Done n c) = is-done n (plain-closing c)
+plain-reply (NotDone why) = gave why
+plain-reply (Done n c) = did n (plain-closing c)
 
-abbrev pub plain-after : After → machine.After Request Good Account
-plain-after w = record { box = box (w .session); reply = plain-reply (w .reply); room = w .room }
+abbrev pub plain-after : After → AfterCall (Box Request Account) (machine.Reply Good)
+plain-after w = record { session = box (w .session); reply = plain-reply (w .reply); room = w .room }
 
 abbrev pub plain-step : StepAfter → machine.StepAfter Good
 plain-step w = record { line = w .line; reply = plain-reply (w .reply); room = w .room }
@@ -81,13 +78,11 @@ module _ (q : Request) (r : List ℕ) where
 
   acted-same : (t : Todo) (l : Line) → Shut t l → plain-step (acted t l a r) ≡ machine.acted unit t l q r
   acted-same Rest l e = refl
-  acted-same Keep l e = refl
-  acted-same Judge l e = refl
   acted-same HandOver l e = refl
   acted-same Nak l e = refl
-  acted-same NakAndLose l e = ap (λ (m : Line). machine.doneAfter m 1 by-doubt (set r 0 0x15)) (sym e)
-  acted-same Refuse l e = ap (λ (m : Line). machine.doneAfter m 0 by-refusal r) (sym e)
-  acted-same Lose l e = ap (λ (m : Line). machine.doneAfter m 0 by-doubt r) (sym e)
+  acted-same LastNak l e = ap (λ (m : Line). machine.doneAfter m 1 by-doubt (set r 0 0x15)) (sym e)
+  acted-same CloseRefused l e = ap (λ (m : Line). machine.doneAfter m 0 by-refusal r) (sym e)
+  acted-same CloseUnknown l e = ap (λ (m : Line). machine.doneAfter m 0 by-doubt r) (sym e)
 
   bad-same : (l : Line) → plain-step (badStep l a r) ≡ machine.badStep unit l q r
   unfolding badStep machine.badStep
@@ -107,30 +102,25 @@ module _ (q : Request) (r : List ℕ) where
   abbrev plain-byte : ByteAfter → machine.ByteAfter Good
   plain-byte w = record { step = plain-step (w .step); store = w .store }
 
-  byte-same : (t : Todo) (l : Line) (store : List ℕ) (at b : ℕ) → Shut t l → plain-byte (byteActed t l a store at b r) ≡ machine.byteActed unit t l q store at b r
+  byte-same : (t : Heard) (l : Line) (store : List ℕ) (at b : ℕ) → ShutIn t l → plain-byte (byteActed t l a store at b r) ≡ machine.byteActed unit t l q store at b r
   unfolding judgeStep machine.judgeStep
-  byte-same Rest l store at b e = refl
   byte-same Keep l store at b e = refl
   byte-same Judge l store at b e = ap (λ (w : machine.StepAfter Good). record { step = w; store = set store at b }) (judged-same (readAnswer (take (answerLength (q .code)) (set store at b))) l)
-  byte-same HandOver l store at b e = refl
-  byte-same Nak l store at b e = refl
-  byte-same NakAndLose l store at b e = ap (λ (w : machine.StepAfter Good). record { step = w; store = store }) (acted-same NakAndLose l e)
-  byte-same Refuse l store at b e = ap (λ (w : machine.StepAfter Good). record { step = w; store = store }) (acted-same Refuse l e)
-  byte-same Lose l store at b e = ap (λ (w : machine.StepAfter Good). record { step = w; store = store }) (acted-same Lose l e)
+  byte-same (Do t) l store at b e = ap (λ (w : machine.StepAfter Good). record { step = w; store = store }) (acted-same t l e)
 
 -- ---- the three calls
 
 -- the account is booked alike
 booked-same : (x : Account) (q : Request) (p : Reply) → bookedBy x (asked-of q) p ≡ machine.bookedBy unit x q (plain-reply p)
-booked-same x q (Refused why) = refl
+booked-same x q (NotDone why) = refl
 booked-same x q (Done n Nothing) = refl
 booked-same x q (Done n (Answered answer listed)) = refl
-booked-same x q (Done n GaveUp) = refl
+booked-same x q (Done n Refused) = refl
 booked-same x q (Done n Unknown) = refl
 
 -- the length of the answer that is kept is the code's
 abbrev pub Keeps : Session → Type 0
-Keeps s = s .asked .want ≡ answerLength (s .asked .code)
+Keeps s = s .asked .span ≡ answerLength (s .asked .code)
 
 -- a session whose command is said by its request
 abbrev with : Line → Request → Account → List ℕ → Session
@@ -151,7 +141,7 @@ module _ (l : Line) (q : Request) (x : Account) (store : List ℕ) where
 
   step-same : (r : List ℕ) (w : ByteAfter) (v : machine.ByteAfter Good) → plain-byte q r w ≡ v → plain-after (after-step w) ≡ machine.ofStep unit (box s) v
   step-same r w v e =
-      ap (λ (y : Account). record { box = record { line = w .step .line; asks = q; account = y; store = w .store }; reply = plain-reply (w .step .reply); room = w .step .room })
+      ap (λ (y : Account). record { session = record { line = w .step .line; asks = q; account = y; store = w .store }; reply = plain-reply (w .step .reply); room = w .step .room })
       (booked-same x q (w .step .reply))
       ∙ ap (machine.ofStep unit (box s)) e
 
@@ -168,15 +158,15 @@ module _ (l : Line) (q : Request) (x : Account) (store : List ℕ) where
   heard-same b r =
       let t = heard l (answerLength (q .code)) b in
       through (λ (w : ByteAfter). plain-after (after-step w)) (byteRefusals r) (λ why. byteAfter (refusedStep l why) store r) _
-      ∙ ap (λ (w : machine.After Request Good Account). judged (byteRefusals r) (left unit (box s) r) w)
-      (step-same r (byteActed (t .todo) (t .line) (asked-of q) store (l .got) b r) _ (byte-same q r (t .todo) (t .line) store (l .got) b (heard-shut l (answerLength (q .code)) b)))
+      ∙ ap (λ (w : AfterCall (Box Request Account) (machine.Reply Good)). judged (byteRefusals r) (left unit (box s) r) w)
+      (step-same r (byteActed (t .heard) (t .line) (asked-of q) store (l .gathered) b r) _ (byte-same q r (t .heard) (t .line) store (l .gathered) b (heard-shut l (answerLength (q .code)) b)))
 
   passed-same : (ms : ℕ) (r : List ℕ) → plain-after (sessionTick s ms r) ≡ machine.called-tick unit (box s) ms r
   unfolding sessionTick tickStep tickRefusals machine.called-tick machine.tickRefusals
   passed-same ms r =
       let t = passed l ms in
       through (λ (w : StepAfter). plain-after (after-step (record { step = w; store = store }))) (tickRefusals ms r) (λ why. stepAfter (refusedStep l why) r) _
-      ∙ ap (λ (w : machine.After Request Good Account). judged (tickRefusals ms r) (left unit (box s) r) w)
+      ∙ ap (λ (w : AfterCall (Box Request Account) (machine.Reply Good)). judged (tickRefusals ms r) (left unit (box s) r) w)
       (step-same r (record { step = acted (t .todo) (t .line) (asked-of q) r; store = store }) _
       (ap (λ (w : machine.StepAfter Good). record { step = w; store = store }) (acted-same q r (t .todo) (t .line) (passed-shut l ms))))
 
@@ -187,7 +177,7 @@ module _ (l : Line) (q : Request) (x : Account) (store : List ℕ) where
 
 -- a session that keeps it is such a one
 kept-with : (s : Session) → Keeps s → with (s .line) (request-of (s .asked)) (s .account) (s .store) ≡ s
-kept-with s e = λ i. record { line = s .line; asked = record { code = s .asked .code; upper = s .asked .upper; lower = s .asked .lower; want = sym e i }; account = s .account; store = s .store }
+kept-with s e = λ i. record { line = s .line; asked = record { code = s .asked .code; upper = s .asked .upper; lower = s .asked .lower; span = sym e i }; account = s .account; store = s .store }
 
 pub session-same : (s : Session) (c : Call) → Keeps s → plain-after (called s c) ≡ machine.called unit (box s) (means c)
 session-same s c e =
@@ -195,11 +185,11 @@ session-same s c e =
     (called-same (s .line) (request-of (s .asked)) (s .account) (s .store) c)
 
 -- what the caller is told is the same
-told-same : (d : Deed Request) (p : Reply) (r : List ℕ) → told d p r ≡ machine.told d (plain-reply p) r
-told-same d (Refused why) r = refl
+told-same : (d : Deed Request Own) (p : Reply) (r : List ℕ) → told ending d (returned p) r ≡ told machine.ending d (plain-reply p) r
+told-same d (NotDone why) r = refl
 told-same d (Done n Nothing) r = refl
 told-same d (Done n (Answered answer listed)) r = refl
-told-same d (Done n GaveUp) r = refl
+told-same d (Done n Refused) r = refl
 told-same d (Done n Unknown) r = refl
 
 deed-same : (c : Call) → deed c ≡ machine.deed (means c)
@@ -207,29 +197,27 @@ deed-same (request code upper lower r) = refl
 deed-same (byte b r) = refl
 deed-same (tick ms r) = refl
 
-pub seen-same : (s : Session) (c : Call) → Keeps s → seen s c ≡ machine.seen unit (box s) (means c)
+pub seen-same : (s : Session) (c : Call) → Keeps s → seen host s c ≡ seen (machine.host unit) (box s) (means c)
 seen-same s c e =
     told-same (deed c) (called s c .reply) (called s c .room)
-    ∙ ap (λ (d : Deed Request). machine.told d (plain-reply (called s c .reply)) (called s c .room)) (deed-same c)
-    ∙ ap (λ (w : machine.After Request Good Account). machine.told (machine.deed (means c)) (w .reply) (w .room)) (session-same s c e)
+    ∙ ap (λ (d : Deed Request Own). told machine.ending d (plain-reply (called s c .reply)) (called s c .room)) (deed-same c)
+    ∙ ap (λ (w : AfterCall (Box Request Account) (machine.Reply Good)). told machine.ending (machine.deed (means c)) (w .reply) (w .room)) (session-same s c e)
 
 pub keeps-next : (s : Session) (c : Call) → Keeps s → Keeps (called s c .session)
 unfolding sessionRequest requestStep sessionByte sessionTick
 keeps-next s (request code upper lower r) e =
-    either-way (λ (w : OpeningAfter). w .asked .want ≡ answerLength (w .asked .code)) (requestRefusals (s .line) code upper lower r)
+    either-way (λ (w : OpeningAfter). w .asked .span ≡ answerLength (w .asked .code)) (requestRefusals (s .line) code upper lower r)
     (λ why. openingAfter (refusedOpening (s .line) (s .asked) why) r) _ (λ why. e) (λ n. refl)
 keeps-next s (byte b r) e = e
 keeps-next s (tick ms r) e = e
 
-abbrev pub session : SessionOver unit Session Call
+abbrev pub session : SessionOver unit host
 session =
     record {
       keeps = Keeps;
       box = box;
-      next = λ s c. called s c .session;
-      sees = seen;
       means = λ s c. means c;
       kept = keeps-next;
-      same = λ s c e k. ap (λ w. w .box) (session-same s c e);
+      same = λ s c e k. ap (λ w. w .session) (session-same s c e);
       told = λ s c e k. seen-same s c e;
     }

@@ -7,10 +7,10 @@ use mathlib.Core.Logic.{⊎-elim}
 use native.Mathlib.Omega.{arith}
 use lib.Dec.{eqb, lit≤}
 use lib.ListN.{length, take}
-use Rattle.numbers.specs.Rules.{same}
-use Rattle.numbers.specs.Put.{laid, refused as not-put}
-use Rattle.numbers.proofs.Rules.{pick, first-judged, none-judged, first-or-none, holds-true}
-use Rattle.numbers.proofs.Writing.{take-over}
+use Rattle.refusals.specs.Rules.{same}
+use Rattle.refusals.specs.Put.{laid, refused as not-put}
+use Rattle.refusals.proofs.Rules.{pick, first-judged, none-judged, first-or-none, holds-true}
+use Rattle.refusals.proofs.Writing.{take-over}
 use Rattle.xor_frame.specs.Layout.{allInRange, allValues}
 use Rattle.dispenser_frame.specs.Table.{table, lineIn, line, known, asks, commandFields, answerFields, answerLength, row, none, purged}
 use Rattle.xor_frame.specs.Frame.{codeOf}
@@ -26,13 +26,14 @@ use Rattle.xor_frame.proofs.Lengths.{length-known}
 use Rattle.dispenser_frame.proofs.Codes.{by-code, command-most, answer-most}
 use Rattle.dispenser_frame.proofs.Trips.{command-length}
 use Rattle.exchange_rules.specs.Sums.{sumsOpened, sumsAnswered, sumsRefused, sumsUnknown}
-use Rattle.exchange_rules.specs.Machine.{Verdict, bad, good, void, Lawful}
+use Rattle.exchange_rules.specs.Machine.{Verdict, bad, good, void}
+use Rattle.exchange_rules.specs.Owed.{Lawful}
 use Rattle.exchange_rules.specs.declared.notes.Sums.{Sums}
 use Rattle.exchange_rules.proofs.Shown.{rejected-answered, left-answered}
 use Rattle.dispenser_rules.specs.Account.{freshAccount, accountOpened, accountRefused, accountUnknown, accountAnswered}
 use Rattle.dispenser_rules.specs.Session.{handOver, bytesPut}
-use Rattle.dispenser_rules.specs.History.{Request, wanted, two, exitOf, rejectsOf, model2000T, layout, cassette}
-use Rattle.dispenser_rules.specs.Unit.{Good, asked-of, verdict, unit}
+use Rattle.dispenser_rules.specs.Calls.{Request}
+use Rattle.dispenser_rules.specs.Unit.{wanted, two, exitOf, rejectsOf, model2000T, layout, cassette, Good, asked-of, verdict, unit}
 use Rattle.dispenser_rules.specs.declared.account.Account.{Account}
 use Rattle.dispenser_rules.specs.declared.session.Asked.{Asked}
 use Rattle.dispenser_rules.proofs.Ranges.{sent-modest, answer-fits}
@@ -84,8 +85,8 @@ answers-by code x (Refused f) e = absurd (let z : _≡_ {A = ℕ} 0 1 = cc in om
 -- ---- what it books of a cassette
 
 record Books (a : Account) (q : Request) (f : List ℕ) (c : Cassette) (after : Sums) : Type 0 where
-  paid : exitOf (q .code) f c ≤ 255
-  spoilt : rejectsOf (q .code) f c ≤ 255
+  paid : exitOf (q .code) f c ≤ 99
+  spoilt : rejectsOf (q .code) f c ≤ 99
   booked : cassette a c .pending .0 ≡ wanted q c → after ≡ sumsAnswered (cassette a c) (wanted q c) (exitOf (q .code) f c) (rejectsOf (q .code) f c)
 
 module _ (a : Account) (q : Request) (sent : sendable (q .code) (q .upper) (q .lower) .holds) where
@@ -153,7 +154,7 @@ module _ (a : Account) (q : Request) (sent : sendable (q .code) (q .upper) (q .l
 
 -- ---- its frames
 
-handed-put : (q : Request) (r : List ℕ) → sendable (q .code) (q .upper) (q .lower) .holds → 16 ≤ length r
+pub handed-put : (q : Request) (r : List ℕ) → sendable (q .code) (q .upper) (q .lower) .holds → 16 ≤ length r
     → take (handOver (asked-of q) r .put) (handOver (asked-of q) r .room) ≡ layout q
 unfolding handOver writeCommand commandRefusals sendable
 handed-put q r h long =
@@ -167,7 +168,7 @@ answer-long : (code upper lower : ℕ) → sendable code upper lower .holds → 
 unfolding sendable
 answer-long code upper lower h = omega (arith, length-known known answerFields code (holds-true (known code) (h .0)))
 
-wanted-most : (q : Request) (c : Cassette) → sendable (q .code) (q .upper) (q .lower) .holds → wanted q c ≤ 255
+wanted-most : (q : Request) (c : Cassette) → sendable (q .code) (q .upper) (q .lower) .holds → wanted q c ≤ 99
 wanted-most q Upper h = omega (arith, sent-modest (asked-of q) h .upper)
 wanted-most q Lower h = omega (arith, sent-modest (asked-of q) h .lower)
 
@@ -193,11 +194,12 @@ lawful =
       long = λ q h. omega (arith, command-length (q .code) (q .upper) (q .lower) h);
       least = λ q h. answer-long (q .code) (q .upper) (q .lower) h;
       most = λ q h. answer-most (q .code);
+      small = lit≤ tt;
       modest = wanted-most;
       paid = λ q f x c h e. books-good freshAccount q h f x c e .paid;
       spoilt = λ q f x c h e. books-good freshAccount q h f x c e .spoilt;
       opens = opens-by;
-      refuses = refuses-by;
-      loses = loses-by;
+      closes-refused = refuses-by;
+      closes-unknown = loses-by;
       answers = λ a q f x c h e p. books-good a q h f x c e .booked p;
     }

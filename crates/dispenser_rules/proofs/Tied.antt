@@ -1,6 +1,6 @@
 -- The session that histories start from is the one of `Session::fresh`: its clause is, as it stands, the equation with it, and leaves no choice. Assumes nothing.
 use mathlib.Core.Path.{_≡_, refl}
-use Rattle.numbers.proofs.Tied.{Is, Tied, tied}
+use Rattle.refusals.proofs.Tied.{Is, Tied, tied}
 use Rattle.dispenser_rules.specs.Session.{freshSession}
 use Rattle.dispenser_rules.proofs.session.Session.fresh.Kinds as fresh
 use Rattle.dispenser_rules.proofs.session.Session.fresh.Reads as fresh-reads

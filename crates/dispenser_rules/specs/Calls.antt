@@ -1,7 +1,15 @@
--- Any calls at all, from a fresh session, and what every session that they lead to keeps (01, "What the proofs must leave no choice about").
+-- Any calls at all on a session of the Model 2000T (01, "What the proofs must leave no choice about"), as their caller sees them. The session after calls, and their
+-- history, are those of every line (`ledger`).
 use Prim.Native.Nat.{ℕ}
-use mathlib.Core.List.{List, [], _∷_}
-use Rattle.dispenser_rules.specs.Session.{After, sessionRequest, sessionByte, sessionTick}
+use mathlib.Core.List.{List, []}
+use Rattle.ledger.specs.Events.{Deed, asks, hears, waits, Left, goes-on, closes, History}
+use Rattle.ledger.specs.Account.{Ending, answered, refused, unknown}
+use Rattle.ledger.specs.Calls.{Returned, gave, did, Host, historyFrom}
+use Rattle.dispenser_rules.specs.Session.{After, freshSession, sessionRequest, sessionByte, sessionTick}
+use Rattle.dispenser_rules.specs.declared.session.Closing.{Closing}
+use Rattle.dispenser_rules.specs.declared.session.Closing.the-variants.{Nothing, Answered, Refused, Unknown}
+use Rattle.dispenser_rules.specs.declared.session.Reply.{Reply}
+use Rattle.dispenser_rules.specs.declared.session.Reply.the-variants.{NotDone, Done}
 use Rattle.dispenser_rules.specs.declared.session.Session.{Session}
 
 -- a call, with any arguments and any room
@@ -15,7 +23,37 @@ called s (request code upper lower r) = sessionRequest s code upper lower r
 called s (byte b r) = sessionByte s b r
 called s (tick ms r) = sessionTick s ms r
 
--- the session after calls
-unfoldable pub run : Session → List Call → Session
-run s [] = s
-run s (c ∷ cs) = run (called s c .session) cs
+-- what a request asks
+pub record Request : Type 0 where
+  pub code : ℕ
+  pub upper : ℕ
+  pub lower : ℕ
+
+-- this line has no calls of its own
+abbrev pub Own : Type 0
+Own = ⊥
+
+abbrev pub deed : Call → Deed Request Own
+deed (request code upper lower r) = asks (record { code = code; upper = upper; lower = lower })
+deed (byte b r) = hears b
+deed (tick ms r) = waits ms
+
+-- what a call returned
+abbrev pub returned : Reply → Returned Closing
+returned (NotDone why) = gave why
+returned (Done n closing) = did n closing
+
+-- of an answer the history has no more than that it came
+abbrev pub ending : Closing → Left Ending
+ending Nothing = goes-on
+ending (Answered answer listed) = closes answered
+ending Refused = closes refused
+ending Unknown = closes unknown
+
+-- the session, as its caller sees it
+abbrev pub host : Host Session Call Reply Request Own Closing Ending
+host = record { called = called; deed = λ s c. deed c; returned = returned; refused = NotDone; ending = ending }
+
+-- the history of calls on a fresh session
+abbrev pub history : List Call → History Request Own Ending
+history cs = historyFrom host freshSession [] cs

@@ -4,9 +4,9 @@ use mathlib.Core.Bool.{cond}
 use mathlib.Core.List.{List, [], _∷_}
 use lib.Dec.{eqb}
 use lib.ListN.{length, take, set, replicate}
-use Rattle.numbers.specs.Rules.{Condition, Rule, says, under, atMost, within, isnt, judged, _gives_}
-use Rattle.numbers.specs.declared.Put.{Put}
-use Rattle.numbers.specs.declared.Put.the-variants.{Bytes, Refused as NotPut}
+use Rattle.refusals.specs.Rules.{Condition, Rule, says, under, atMost, within, isnt, judged, _gives_}
+use Rattle.refusals.specs.declared.Put.{Put}
+use Rattle.refusals.specs.declared.Put.the-variants.{Bytes, Refused as NotPut}
 use Rattle.dispenser_frame.specs.Table.{answerLength}
 use Rattle.dispenser_frame.specs.Command.{sendable, writeCommand}
 use Rattle.dispenser_frame.specs.Answer.{answerCode, readAnswer}
@@ -19,14 +19,17 @@ use Rattle.dispenser_rules.specs.declared.account.Account.{Account}
 use Rattle.exchange_rules.specs.declared.line.Phase.{Phase}
 use Rattle.exchange_rules.specs.declared.line.Line.{Line}
 use Rattle.exchange_rules.specs.declared.line.Todo.{Todo}
-use Rattle.exchange_rules.specs.declared.line.Todo.the-variants.{Nothing as Rest, Keep, Judge, HandOver, Nak, NakAndLose, Refuse, Lose}
-use Rattle.ledger.specs.declared.Declined.{Declined}
-use Rattle.ledger.specs.declared.Declined.the-variants.{Room, Range, Open, Unquiet, Spent, Tick}
+use Rattle.exchange_rules.specs.declared.line.Todo.the-variants.{Nothing as Rest, HandOver, Nak, LastNak, CloseRefused, CloseUnknown}
+use Rattle.exchange_rules.specs.declared.line.Heard.{Heard}
+use Rattle.exchange_rules.specs.declared.line.Heard.the-variants.{Keep, Judge, Do}
+use Rattle.ledger.specs.Calls.{After as AfterCall}
+use Rattle.refusals.specs.declared.Declined.{Declined}
+use Rattle.refusals.specs.declared.Declined.the-variants.{Room, Range, Open, Unquiet, Spent, Tick}
 use Rattle.dispenser_rules.specs.declared.session.Asked.{Asked}
 use Rattle.dispenser_rules.specs.declared.session.Closing.{Closing}
-use Rattle.dispenser_rules.specs.declared.session.Closing.the-variants.{Nothing, Answered, Refused as GaveUp, Unknown}
+use Rattle.dispenser_rules.specs.declared.session.Closing.the-variants.{Nothing, Answered, Refused, Unknown}
 use Rattle.dispenser_rules.specs.declared.session.Reply.{Reply}
-use Rattle.dispenser_rules.specs.declared.session.Reply.the-variants.{Refused, Done}
+use Rattle.dispenser_rules.specs.declared.session.Reply.the-variants.{NotDone, Done}
 use Rattle.dispenser_rules.specs.declared.session.Step.{Step}
 use Rattle.dispenser_rules.specs.declared.session.Opening.{Opening}
 use Rattle.dispenser_rules.specs.declared.session.Session.{Session}
@@ -38,10 +41,10 @@ abbrev pub stepped : Line → ℕ → Closing → Step
 stepped l n c = record { line = l; reply = Done n c }
 
 abbrev pub refusedStep : Line → Declined → Step
-refusedStep l why = record { line = l; reply = Refused why }
+refusedStep l why = record { line = l; reply = NotDone why }
 
 abbrev pub refusedOpening : Line → Asked → Declined → Opening
-refusedOpening l a why = record { line = l; asked = a; reply = Refused why }
+refusedOpening l a why = record { line = l; asked = a; reply = NotDone why }
 
 -- a step, with every byte of the room afterwards
 pub record StepAfter : Type 0 where
@@ -73,10 +76,8 @@ abbrev pub openingAfter : Opening → List ℕ → OpeningAfter
 openingAfter o r = record { line = o .line; asked = o .asked; reply = o .reply; room = r }
 
 -- the session, what the call answers, and every byte of the room
-pub record After : Type 0 where
-  pub session : Session
-  pub reply : Reply
-  pub room : List ℕ
+abbrev pub After : Type 0
+After = AfterCall Session Reply
 
 abbrev pub after : Outcome → List ℕ → After
 after o r = record { session = o .session; reply = o .reply; room = r }
@@ -101,16 +102,14 @@ handOver a r =
     let w = writeCommand (a .code) (a .upper) (a .lower) r in
     handed (bytesPut (w .answer)) (w .room)
 
--- what the exchange says is to be done, but for bytes of an answer
+-- what the exchange says is to be done
 abbrev pub acted : Todo → Line → Asked → List ℕ → StepAfter
 acted Rest l a r = doneAfter l 0 Nothing r
-acted Keep l a r = doneAfter l 0 Nothing r
-acted Judge l a r = doneAfter l 0 Nothing r
 acted HandOver l a r = doneAfter l (handOver a r .put) Nothing (handOver a r .room)
 acted Nak l a r = doneAfter l 1 Nothing (set r 0 0x15)
-acted NakAndLose l a r = doneAfter l 1 Unknown (set r 0 0x15)
-acted Refuse l a r = doneAfter l 0 GaveUp r
-acted Lose l a r = doneAfter l 0 Unknown r
+acted LastNak l a r = doneAfter l 1 Unknown (set r 0 0x15)
+acted CloseRefused l a r = doneAfter l 0 Refused r
+acted CloseUnknown l a r = doneAfter l 0 Unknown r
 
 -- ---- bytes
 
@@ -125,18 +124,13 @@ judgedStep (Read answer listed) l a r =
 judgedStep (NotRead fault) l a r = badStep l a r
 
 unfoldable pub judgeStep : Line → Asked → List ℕ → List ℕ → StepAfter
-judgeStep l a store r = judgedStep (readAnswer (take (a .want) store)) l a r
+judgeStep l a store r = judgedStep (readAnswer (take (a .span) store)) l a r
 
 -- what the exchange says of a byte b whose place in the store is at
-abbrev pub byteActed : Todo → Line → Asked → List ℕ → ℕ → ℕ → List ℕ → ByteAfter
-byteActed Rest l a store at b r = record { step = acted Rest l a r; store = store }
+abbrev pub byteActed : Heard → Line → Asked → List ℕ → ℕ → ℕ → List ℕ → ByteAfter
 byteActed Keep l a store at b r = record { step = doneAfter l 0 Nothing r; store = set store at b }
 byteActed Judge l a store at b r = record { step = judgeStep l a (set store at b) r; store = set store at b }
-byteActed HandOver l a store at b r = record { step = acted HandOver l a r; store = store }
-byteActed Nak l a store at b r = record { step = acted Nak l a r; store = store }
-byteActed NakAndLose l a store at b r = record { step = acted NakAndLose l a r; store = store }
-byteActed Refuse l a store at b r = record { step = acted Refuse l a r; store = store }
-byteActed Lose l a store at b r = record { step = acted Lose l a r; store = store }
+byteActed (Do t) l a store at b r = record { step = acted t l a r; store = store }
 
 -- "received bytes 1"
 unfoldable pub byteRefusals : List ℕ → List (Rule Declined)
@@ -145,7 +139,7 @@ byteRefusals r = under (length r) leastRoom gives Room ∷ []
 unfoldable pub byteStep : Line → Asked → List ℕ → ℕ → List ℕ → ByteAfter
 byteStep l a store b r =
     judged (byteRefusals r) (λ why. byteAfter (refusedStep l why) store r)
-    (byteActed (heard l (a .want) b .todo) (heard l (a .want) b .line) a store (l .got) b r)
+    (byteActed (heard l (a .span) b .heard) (heard l (a .span) b .line) a store (l .gathered) b r)
 
 -- ---- ticks
 
@@ -174,7 +168,7 @@ requestRefusals l code upper lower r =
     ∷ []
 
 abbrev pub command : ℕ → ℕ → ℕ → Asked
-command code upper lower = record { code = code; upper = upper; lower = lower; want = answerLength code }
+command code upper lower = record { code = code; upper = upper; lower = lower; span = answerLength code }
 
 -- "Request accepted: the frame is handed over."
 unfoldable pub requestStep : Line → Asked → ℕ → ℕ → ℕ → List ℕ → OpeningAfter
@@ -188,15 +182,15 @@ requestStep l a code upper lower r =
 abbrev pub closedBy : Account → Asked → Closing → Account
 closedBy a c Nothing = a
 closedBy a c (Answered answer listed) = accountAnswered a c answer
-closedBy a c GaveUp = accountRefused a c
+closedBy a c Refused = accountRefused a c
 closedBy a c Unknown = accountUnknown a c
 
 abbrev pub bookedBy : Account → Asked → Reply → Account
-bookedBy a c (Refused why) = a
+bookedBy a c (NotDone why) = a
 bookedBy a c (Done n closing) = closedBy a c closing
 
 abbrev pub requestBooked : Account → Asked → Reply → Account
-requestBooked a c (Refused why) = a
+requestBooked a c (NotDone why) = a
 requestBooked a c (Done n closing) = accountOpened a c
 
 -- ---- the session by value
@@ -206,7 +200,7 @@ unfoldable pub freshSession : Session
 freshSession =
     record {
       line = freshLine;
-      asked = record { code = 0; upper = 0; lower = 0; want = 0 };
+      asked = record { code = 0; upper = 0; lower = 0; span = 0 };
       account = freshAccount;
       store = replicate 21 0;
     }

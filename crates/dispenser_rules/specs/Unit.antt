@@ -1,19 +1,66 @@
--- The Model 2000T, as a unit of the shared session (`exchange`).
+-- The Model 2000T, as a unit of the shared session (`exchange_rules`): what is asked of its two cassettes, in which bytes, and what an answer's bytes say of them.
 use Prim.Native.Nat.{ℕ}
 use mathlib.Core.Bool.{Bool, cond}
+use mathlib.Core.List.{List}
 use lib.Dec.{eqb}
-use Rattle.exchange_rules.specs.Machine.{Verdict, bad, good, Model}
-use Rattle.dispenser_frame.specs.Command.{sendable}
+use lib.ListN.{take, drop}
+use Rattle.numbers.specs.Decimal.{number}
+use Rattle.ledger.specs.Account.{Dispenser}
+use Rattle.exchange_rules.specs.Machine.{Verdict, bad, good, Model, Box}
+use Rattle.exchange_rules.specs.declared.notes.Sums.{Sums}
+use Rattle.dispenser_frame.specs.Table.{answerLength}
+use Rattle.dispenser_frame.specs.Command.{sendable, commandFrame}
 use Rattle.dispenser_frame.specs.Answer.{answerCode, readAnswer}
 use Rattle.dispenser_frame.specs.declared.answer.Cassette.{Cassette}
+use Rattle.dispenser_frame.specs.declared.answer.Cassette.the-variants.{Upper, Lower}
 use Rattle.dispenser_frame.specs.declared.answer.Answer.{Answer}
 use Rattle.dispenser_frame.specs.declared.answer.AnswerRead.{AnswerRead}
 use Rattle.dispenser_frame.specs.declared.answer.AnswerRead.the-variants.{Read, Refused as NotRead}
 use Rattle.dispenser_rules.specs.Account.{accountOpened, accountAnswered, accountRefused, accountUnknown}
 use Rattle.dispenser_rules.specs.Session.{handOver, command}
-use Rattle.dispenser_rules.specs.History.{Request, model2000T, layout, cassette}
+use Rattle.dispenser_rules.specs.Calls.{Request}
 use Rattle.dispenser_rules.specs.declared.account.Account.{Account}
 use Rattle.dispenser_rules.specs.declared.session.Asked.{Asked}
+use Rattle.dispenser_rules.specs.declared.session.Session.{Session}
+
+-- ---- what its bytes say
+
+abbrev pub wanted : Request → Cassette → ℕ
+wanted q Upper = q .upper
+wanted q Lower = q .lower
+
+-- the count whose two digits stand from a place of an answer on
+abbrev pub two : ℕ → List ℕ → ℕ
+two at f = number (take 2 (drop at f))
+
+-- the EXIT count of a cassette, by its place: behind four bytes and two digits of CHK; for the lower one of both, four digits more
+abbrev pub exitOf : ℕ → List ℕ → Cassette → ℕ
+exitOf code f Upper = cond (eqb code 0x45) (two 6 f) (cond (eqb code 0x56) (two 6 f) 0)
+exitOf code f Lower = cond (eqb code 0x55) (two 6 f) (cond (eqb code 0x56) (two 10 f) 0)
+
+-- its rejects, the last two digits before 03h; from both cassettes the upper's stand before the lower's
+abbrev pub rejectsOf : ℕ → List ℕ → Cassette → ℕ
+rejectsOf code f Upper = cond (eqb code 0x45) (two 10 f) (cond (eqb code 0x56) (two 15 f) (cond (eqb code 0x76) (two 10 f) 0))
+rejectsOf code f Lower = cond (eqb code 0x55) (two 10 f) (cond (eqb code 0x56) (two 17 f) (cond (eqb code 0x77) (two 10 f) 0))
+
+abbrev pub model2000T : Dispenser Request Cassette
+model2000T =
+    record {
+      wants = wanted;
+      span = λ q. answerLength (q .code);
+      exit = λ q. exitOf (q .code);
+      rejects = λ q. rejectsOf (q .code);
+    }
+
+-- the frame which the command layout gives
+abbrev pub layout : Request → List ℕ
+layout q = commandFrame (q .code) (q .upper) (q .lower)
+
+-- ---- the unit
+
+abbrev pub cassette : Account → Cassette → Sums
+cassette a Upper = a .upper
+cassette a Lower = a .lower
 
 -- a good answer, and whether its error byte is listed
 pub record Good : Type 0 where
@@ -38,9 +85,19 @@ unit =
       more = λ q. 0;
       cassette = cassette;
       opens = λ a q. accountOpened a (asked-of q);
-      refuses = λ a q. accountRefused a (asked-of q);
-      loses = λ a q. accountUnknown a (asked-of q);
+      closes-refused = λ a q. accountRefused a (asked-of q);
+      closes-unknown = λ a q. accountUnknown a (asked-of q);
       answers = λ a q x. accountAnswered a (asked-of q) (x .answer);
       bytes = model2000T;
       longest = 21;
+      greatest = 99;
     }
+
+-- ---- a session of it
+
+abbrev pub request-of : Asked → Request
+request-of a = record { code = a .code; upper = a .upper; lower = a .lower }
+
+-- which session over the unit a session is
+abbrev pub box : Session → Box Request Account
+box s = record { line = s .line; asks = request-of (s .asked); account = s .account; store = s .store }

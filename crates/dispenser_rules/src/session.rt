@@ -4,14 +4,14 @@ ghost use Rattle.dispenser_rules.specs.Session.{freshSession};
 use crate::account::Account;
 use dispenser_frame::Answer;
 use exchange_rules::Line;
-use ledger::Declined;
+use refusals::Declined;
 
 // The command that is open, or was last: its code, the notes asked of each cassette (0 where none are), and the length of its answer.
 pub struct Asked {
     pub code: u8,
     pub upper: u32,
     pub lower: u32,
-    pub want: usize,
+    pub span: usize,
 }
 
 // How a call closed the open command, if it did.
@@ -25,7 +25,7 @@ pub enum Closing {
 
 // What a call answers: why it was declined, or how many bytes it put at the room's start and which closing it made.
 pub enum Reply {
-    Refused(Declined),
+    NotDone(Declined),
     Done { put: usize, closing: Closing },
 }
 
@@ -90,7 +90,7 @@ impl Session {
                 code: 0,
                 upper: 0,
                 lower: 0,
-                want: 0,
+                span: 0,
             },
             account: Account::fresh(),
             store: [0; 21],

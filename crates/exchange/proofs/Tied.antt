@@ -1,5 +1,5 @@
 -- No contract of this crate leaves a choice: two outcomes that it allows for the same arguments coincide. Assumes nothing.
-use Rattle.numbers.proofs.Tied.{Tied, tied}
+use Rattle.refusals.proofs.Tied.{Tied, tied}
 use Rattle.exchange.proofs.line.is_open.Kinds as is-open
 use Rattle.exchange.proofs.line.is_open.Reads as is-open-reads
 use Rattle.exchange.proofs.line.opened.Kinds as opened
@@ -16,12 +16,12 @@ use Rattle.exchange.proofs.sums.opened.Kinds as sums-opened
 use Rattle.exchange.proofs.sums.opened.Reads as sums-opened-reads
 use Rattle.exchange.proofs.sums.answered.Kinds as sums-answered
 use Rattle.exchange.proofs.sums.answered.Reads as sums-answered-reads
-use Rattle.exchange.proofs.sums.refuse.Kinds as sums-refuse
-use Rattle.exchange.proofs.sums.refuse.Reads as sums-refuse-reads
-use Rattle.exchange.proofs.sums.lose.Kinds as sums-lose
-use Rattle.exchange.proofs.sums.lose.Reads as sums-lose-reads
-use Rattle.exchange.proofs.sums.reject.Kinds as sums-reject
-use Rattle.exchange.proofs.sums.reject.Reads as sums-reject-reads
+use Rattle.exchange.proofs.sums.closed_refused.Kinds as sums-closed-refused
+use Rattle.exchange.proofs.sums.closed_refused.Reads as sums-closed-refused-reads
+use Rattle.exchange.proofs.sums.closed_unknown.Kinds as sums-closed-unknown
+use Rattle.exchange.proofs.sums.closed_unknown.Reads as sums-closed-unknown-reads
+use Rattle.exchange.proofs.sums.rejected.Kinds as sums-rejected
+use Rattle.exchange.proofs.sums.rejected.Reads as sums-rejected-reads
 
 pub is-open-tied : Tied is-open.ps is-open.r is-open-reads.Post (λ κs x e. x)
 is-open-tied =
@@ -63,17 +63,17 @@ sums-answered-tied =
     tied sums-answered.ps sums-answered.r sums-answered-reads.Post (λ κs x e. x) _
     (λ κs a x e p. p)
 
-pub sums-refuse-tied : Tied sums-refuse.ps sums-refuse.r sums-refuse-reads.Post (λ κs x e. x)
-sums-refuse-tied =
-    tied sums-refuse.ps sums-refuse.r sums-refuse-reads.Post (λ κs x e. x) _
+pub sums-closed-refused-tied : Tied sums-closed-refused.ps sums-closed-refused.r sums-closed-refused-reads.Post (λ κs x e. x)
+sums-closed-refused-tied =
+    tied sums-closed-refused.ps sums-closed-refused.r sums-closed-refused-reads.Post (λ κs x e. x) _
     (λ κs a x e p. p)
 
-pub sums-lose-tied : Tied sums-lose.ps sums-lose.r sums-lose-reads.Post (λ κs x e. x)
-sums-lose-tied =
-    tied sums-lose.ps sums-lose.r sums-lose-reads.Post (λ κs x e. x) _
+pub sums-closed-unknown-tied : Tied sums-closed-unknown.ps sums-closed-unknown.r sums-closed-unknown-reads.Post (λ κs x e. x)
+sums-closed-unknown-tied =
+    tied sums-closed-unknown.ps sums-closed-unknown.r sums-closed-unknown-reads.Post (λ κs x e. x) _
     (λ κs a x e p. p)
 
-pub sums-reject-tied : Tied sums-reject.ps sums-reject.r sums-reject-reads.Post (λ κs x e. x)
-sums-reject-tied =
-    tied sums-reject.ps sums-reject.r sums-reject-reads.Post (λ κs x e. x) _
+pub sums-rejected-tied : Tied sums-rejected.ps sums-rejected.r sums-rejected-reads.Post (λ κs x e. x)
+sums-rejected-tied =
+    tied sums-rejected.ps sums-rejected.r sums-rejected-reads.Post (λ κs x e. x) _
     (λ κs a x e p. p)

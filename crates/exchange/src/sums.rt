@@ -63,7 +63,7 @@ pub fn answered(was: Sums, q: u32, e: u32, r: u32) -> Sums
 }
 
 // q notes were asked, and refused.
-pub fn refuse(was: Sums, q: u32) -> Sums
+pub fn closed_refused(was: Sums, q: u32) -> Sums
     ensures { λ r. ⌜ r ≡ sumsRefused was q ⌝ }
 {
     let refused = was.refused;
@@ -76,7 +76,7 @@ pub fn refuse(was: Sums, q: u32) -> Sums
 }
 
 // q notes were asked, and nobody knows what became of them.
-pub fn lose(was: Sums, q: u32) -> Sums
+pub fn closed_unknown(was: Sums, q: u32) -> Sums
     ensures { λ r. ⌜ r ≡ sumsUnknown was q ⌝ }
 {
     let unknown = was.unknown;
@@ -89,7 +89,7 @@ pub fn lose(was: Sums, q: u32) -> Sums
 }
 
 // r notes were rejected by a test.
-pub fn reject(was: Sums, r: u32) -> Sums
+pub fn rejected(was: Sums, r: u32) -> Sums
     ensures { λ s. ⌜ s ≡ sumsRejected was r ⌝ }
 {
     let rejected = was.rejected;

@@ -6,19 +6,22 @@ use mathlib.Core.List.{List, [], _∷_}
 use native.Mathlib.Omega.{arith}
 use lib.Dec.{lit≤}
 use lib.ListN.{length}
-use Rattle.numbers.specs.Rules.{says, under, atMost, _gives_}
-use Rattle.numbers.proofs.Rules.{Alike}
+use Rattle.refusals.specs.Rules.{says, under, atMost, _gives_}
+use Rattle.refusals.proofs.Rules.{Alike}
 use Rattle.ledger.specs.Events.{Event, History}
+use Rattle.ledger.specs.Calls.{Host, seen, run, historyFrom}
 use Rattle.ledger.specs.Line.{isOpen as isOpenIn, quietTime, quietNeeded, accepted}
 use Rattle.ledger.specs.Account.{Ending, commands, totals, sums}
 use Rattle.ledger.specs.Sent.{AtMost, Rightly, Demand3}
-use Rattle.ledger.specs.declared.Declined.the-variants.{Open, Unquiet, Spent}
+use Rattle.refusals.specs.declared.Declined.the-variants.{Open, Unquiet, Spent}
 use Rattle.ledger.proofs.Laws.{balanced}
 use Rattle.ledger.proofs.Follows.{OpenIn, At, follows-few}
 use Rattle.exchange_rules.specs.Limits.{quiet, handOvers, commandLimit}
 use Rattle.exchange_rules.specs.Exchange.{isOpen, freshLine}
 use Rattle.exchange_rules.specs.Sums.{freshSums}
-use Rattle.exchange_rules.specs.Machine.{Model, Lawful, Box, Bounded, Sound, plain, quietAfter, requestRefusals, historyRefusals, Call, request, byte, tick, called, seen, Session, run, historyFrom}
+use Rattle.exchange_rules.specs.Machine.{Model, Box, plain, quietAfter, requestRefusals, historyRefusals, Call, request, byte, tick, called, host}
+use Rattle.exchange_rules.specs.Kept.{Bounded, Within, Sound}
+use Rattle.exchange_rules.specs.Owed.{Lawful, Session}
 use Rattle.exchange_rules.specs.declared.line.Phase.{Phase}
 use Rattle.exchange_rules.specs.declared.line.Phase.the-variants.{Idle, First, Start, Inside}
 use Rattle.exchange_rules.proofs.Keeping.{request-sound, heard-sound, passed-sound}
@@ -26,17 +29,17 @@ use Rattle.exchange_rules.proofs.Tracks.{stage, view, rules, Tracks, re
 
 -- ---- a fresh session
 
-pub fresh-sums : Bounded 0 0 freshSums
-fresh-sums =
+pub fresh-sums : (g n c : ℕ) → Bounded g n c freshSums
+fresh-sums g n c =
     record {
-      asked-most = lit≤ tt;
-      paid-most = lit≤ tt;
-      short-most = lit≤ tt;
-      over-most = lit≤ tt;
-      refused-most = lit≤ tt;
-      unknown-most = lit≤ tt;
-      pending-most = lit≤ tt;
-      rejected-most = lit≤ tt;
+      asked-most = omega arith;
+      paid-most = omega arith;
+      short-most = omega arith;
+      over-most = omega arith;
+      refused-most = omega arith;
+      unknown-most = omega arith;
+      pending-most = omega arith;
+      rejected-most = omega arith;
     }
 
 module _ {R X A C : Type 0} (U : Model R X A C) where
@@ -46,9 +49,9 @@ module _ {R X A C : Type 0} (U : Model R X A C) where
     new = record { line = freshLine; asks = q; account = x; store = store }
 
     pub new-sound : Sound U new
-    new-sound = record { stands = tt; commands = lit≤ tt; books = λ c. subst (Bounded 0 0) (sym (zero c)) fresh-sums; store = full }
+    new-sound = record { stands = tt; commands = lit≤ tt; books = λ c. subst (Within (U .greatest) 0 0) (sym (zero c)) (fresh-sums (U .greatest) _ _); store = full }
 
-    pub new-tracks : Tracks U new []
+    pub new-tracks : {O : Type 0} → Tracks U {O = O} new []
     unfolding commands totals isOpenIn quietTime quietNeeded accepted
     new-tracks =
         record {
@@ -60,19 +63,19 @@ module _ {R X A C : Type 0} (U : Model R X A C) where
 
   -- ---- a call
 
-  module _ (K : Lawful U) (s : Box R A) (h : History R Ending) (k : Sound U s) (t : Tracks U s h) where
-    called-sound : (c : Call R) → Sound U (called U s c .box)
+  module _ {O : Type 0} (K : Lawful U) (s : Box R A) (h : History R O Ending) (k : Sound U s) (t : Tracks U s h) where
+    called-sound : (c : Call R) → Sound U (called U s c .session)
     called-sound (request q r) = request-sound U K s k q r
     called-sound (byte b r) = heard-sound U K s k b r (λ c o. open-pending U K s h k t c o)
     called-sound (tick ms r) = passed-sound U K s k ms r
 
-    called-tracks : (c : Call R) → Tracks U (called U s c .box) (seen U s c ∷ h)
+    called-tracks : (c : Call R) → Tracks U (called U s c .session) (seen (host U) s c ∷ h)
     called-tracks (request q r) = request-tracks U K s h k t q r
     called-tracks (byte b r) = byte-tracks U K s h k t b r
     called-tracks (tick ms r) = tick-tracks U K s h k t ms r
 
   -- on a line that follows its history, both say the same of a request
-  pub alike-at : (s : Box R A) (h : History R Ending) (q : R) (r : List ℕ) → Tracks U s h
+  pub alike-at : {O : Type 0} (s : Box R A) (h : History R O Ending) (q : R) (r : List ℕ) → Tracks U s h
       → Alike (requestRefusals U (s .line) q r) (historyRefusals U h q r)
   unfolding requestRefusals historyRefusals
   alike-at s h q r t =
@@ -102,40 +105,35 @@ module _ {R X A C : Type 0} (U : Model R X A C) where
 
 -- ---- any calls at all
 
-module _ {R X A C S T : Type 0} {U : Model R X A C} (K : Lawful U) (M : Session U S T) where
+module _ {R X A C S T P O Q : Type 0} {U : Model R X A C} {H : Host S T P R O Q Ending} (K : Lawful U) (M : Session U H) where
   -- what every session keeps
-  pub record Kept (s : S) (h : History R Ending) : Type 0 where
+  pub record Kept (s : S) (h : History R O Ending) : Type 0 where
     pub own : M .keeps s
     pub sound : Sound U (M .box s)
     pub tracks : Tracks U (M .box s) h
 
-  next-kept : (s : S) (h : History R Ending) (t : T) → Kept s h → Kept (M .next s t) (M .sees s t ∷ h)
+  next-kept : (s : S) (h : History R O Ending) (t : T) → Kept s h → Kept (H .called s t .session) (seen H s t ∷ h)
   next-kept s h t k =
       record {
         own = M .kept s t (k .own);
         sound = subst (Sound U) (sym (M .same s t (k .own) (k .sound))) (called-sound U K (M .box s) h (k .sound) (k .tracks) (M .means s t));
-        tracks = subst (λ (e : Event R Ending). Tracks U (M .box (M .next s t)) (e ∷ h)) (sym (M .told s t (k .own) (k .sound)))
-            (subst (λ (b : Box R A). Tracks U b (seen U (M .box s) (M .means s t) ∷ h)) (sym (M .same s t (k .own) (k .sound)))
+        tracks = subst (λ (e : Event R O Ending). Tracks U (M .box (H .called s t .session)) (e ∷ h)) (sym (M .told s t (k .own) (k .sound)))
+            (subst (λ (b : Box R A). Tracks U b (seen (host U) (M .box s) (M .means s t) ∷ h)) (sym (M .same s t (k .own) (k .sound)))
             (called-tracks U K (M .box s) h (k .sound) (k .tracks) (M .means s t)));
       }
 
-  pub run-kept : (s : S) (h : History R Ending) (ts : List T) → Kept s h → Kept (run M s ts) (historyFrom M s h ts)
+  pub run-kept : (s : S) (h : History R O Ending) (ts : List T) → Kept s h → Kept (run H s ts) (historyFrom H s h ts)
   unfolding run historyFrom
   run-kept s h [] k = k
-  run-kept s h (t ∷ ts) k = run-kept (M .next s t) (M .sees s t ∷ h) ts (next-kept s h t k)
+  run-kept s h (t ∷ ts) k = run-kept (H .called s t .session) (seen H s t ∷ h) ts (next-kept s h t k)
 
-  -- the theorem: of the session after calls, `ran`, and of their history, `known`
-  pub demand3 : (s : S) → Kept s [] → (ran : List T → S) (known : List T → History R Ending) → ((ts : List T) → run M s ts ≡ ran ts)
-      → ((ts : List T) → historyFrom M s [] ts ≡ known ts)
-      → Demand3 (U .bytes) (U .layout) handOvers (λ (ts : List T) (c : C). plain (U .cassette (M .box (ran ts) .account) c)) known
-  demand3 s k ran known r e =
+  -- the theorem
+  pub demand3 : (s : S) → Kept s []
+      → Demand3 (U .bytes) (U .layout) handOvers (λ (ts : List T) (c : C). plain (U .cassette (M .box (run H s ts) .account) c)) (historyFrom H s [])
+  demand3 s k =
       record {
-        account = λ ts c.
-            ap (λ (x : S). plain (U .cassette (M .box x .account) c)) (sym (r ts)) ∙ run-kept s [] ts k .tracks .books c
-            ∙ ap (λ (h : History R Ending). sums (U .bytes) h c) (e ts);
-        balance = λ ts c. balanced (U .bytes) (commands (U .bytes) (known ts)) c;
-        few = λ ts.
-            subst (λ (h : History R Ending). AtMost handOvers (commands (U .bytes) h)) (e ts)
-            (follows-few (rules U) (view U (M .box (run M s ts))) (historyFrom M s [] ts) (run-kept s [] ts k .tracks));
-        rightly = λ ts. subst (Rightly (U .bytes) (U .layout)) (e ts) (run-kept s [] ts k .tracks .rightly);
+        account = λ ts c. run-kept s [] ts k .tracks .books c;
+        balance = λ ts c. balanced (U .bytes) (commands (U .bytes) (historyFrom H s [] ts)) c;
+        few = λ ts. follows-few (rules U) (view U (M .box (run H s ts))) (historyFrom H s [] ts) (run-kept s [] ts k .tracks);
+        rightly = λ ts. run-kept s [] ts k .tracks .rightly;
       }

@@ -1,26 +1,32 @@
 -- Every session over a lawful unit that calls lead to from a sound one is sound, and so none of its sums is ever cut. Assumes nothing.
-use Prim.Native.Nat.{ℕ, _+_, _-_, _≤_, _<_}
+use Prim.Native.Nat.{ℕ, _+_, _-_, _*_, _≤_, _<_}
 use mathlib.Core.Path.{_≡_, refl, sym, ap, _∙_, subst}
 use mathlib.Core.Bool.{true}
 use mathlib.Core.List.{List, [], _∷_}
-use native.Mathlib.Nat.{le-refl}
+use native.Mathlib.Nat.{le-refl, le-of-eq}
 use native.Mathlib.Omega.{arith}
 use lib.Dec.{lit≤, lit<}
 use lib.ListN.{length, set, take, length-set}
-use Rattle.numbers.specs.Rules.{under, same, NoneOf}
-use Rattle.numbers.proofs.Rules.{pick, either-way, certain}
+use Rattle.refusals.specs.Rules.{under, same, NoneOf}
+use Rattle.ledger.specs.Calls.{After}
+use Rattle.refusals.proofs.Rules.{pick, either-way, certain}
 use Rattle.exchange_rules.specs.Limits.{quiet, answerWait, nakWait, frameWait, handOvers, nakLimit, commandLimit}
-use Rattle.exchange_rules.specs.Exchange.{isOpen, opened, handedAgain, closed, starting, inside, waits, firstByte, badFrame, startByte, gathered, heardIn, heard, expiredIn, expired, passed}
+use Rattle.exchange_rules.specs.Exchange.{isOpen, opened, handedAgain, closed, starting, inside, waits, firstByte, badFrame, startByte, insideByte, heardIn, heard, expiredIn, expired, passed}
 use Rattle.exchange_rules.specs.Sums.{sumsOpened, sumsRefused, sumsUnknown}
-use Rattle.exchange_rules.specs.Machine.{Model, Lawful, Verdict, bad, good, void, Box, StepAfter, ByteAfter, After, shut, acted, badStep, judgedStep, judgeStep, byteActed, byteRefusals, tickRefusals, requestRefusals, next, opening, left, called-request, heardStep, ofStep, called-byte, called-tick, Live, Stands, settled, Bounded, Sound}
+use Rattle.exchange_rules.specs.Machine.{Model, Verdict, bad, good, void, Reply, Box, StepAfter, ByteAfter, shut, acted, badStep, judgedStep, judgeStep, byteActed, byteRefusals, tickRefusals, requestRefusals, next, opening, left, called-request, heardStep, ofStep, called-byte, called-tick}
+use Rattle.exchange_rules.specs.Kept.{Live, Stands, settled, Within, Sound}
+use Rattle.exchange_rules.specs.Owed.{Lawful}
 use Rattle.exchange_rules.specs.declared.notes.Sums.{Sums}
 use Rattle.exchange_rules.specs.declared.line.Phase.{Phase}
 use Rattle.exchange_rules.specs.declared.line.Phase.the-variants.{Idle, First, Start, Inside}
 use Rattle.exchange_rules.specs.declared.line.Line.{Line}
 use Rattle.exchange_rules.specs.declared.line.Todo.{Todo}
-use Rattle.exchange_rules.specs.declared.line.Todo.the-variants.{Nothing, Keep, Judge, HandOver, Nak, NakAndLose, Refuse, Lose}
+use Rattle.exchange_rules.specs.declared.line.Todo.the-variants.{Nothing, HandOver, Nak, LastNak, CloseRefused, CloseUnknown}
+use Rattle.exchange_rules.specs.declared.line.Heard.{Heard}
+use Rattle.exchange_rules.specs.declared.line.Heard.the-variants.{Keep, Judge, Do}
+use Rattle.exchange_rules.specs.declared.line.Hearing.{Hearing}
 use Rattle.exchange_rules.specs.declared.line.Turn.{Turn}
-use Rattle.exchange_rules.proofs.Bounds.{bounded-longer, sums-opened, sums-answered, sums-refused, sums-unknown}
+use Rattle.exchange_rules.proofs.Bounds.{one-more, bounded-longer, sums-opened, sums-answered, sums-refused, sums-unknown}
 
 -- how many commands of a line have been closed
 abbrev done-with : Line → ℕ
@@ -34,13 +40,13 @@ settled-most Start n = omega arith
 settled-most Inside n = omega arith
 
 -- a frame is judged only where a command is open
-judging-in : (p : Phase) (l : Line) (n b : ℕ) → heardIn p l n b .todo ≡ Judge → isOpen p ≡ true
+judging-in : (p : Phase) (l : Line) (n b : ℕ) → heardIn p l n b .heard ≡ Judge → isOpen p ≡ true
 judging-in Idle l n b e = let x : _≡_ {A = ℕ} 0 1 = cc in absurd (omega arith)
 judging-in First l n b e = refl
 judging-in Start l n b e = refl
 judging-in Inside l n b e = refl
 
-judging : (l : Line) (n b : ℕ) → heard l n b .todo ≡ Judge → isOpen (l .phase) ≡ true
+judging : (l : Line) (n b : ℕ) → heard l n b .heard ≡ Judge → isOpen (l .phase) ≡ true
 unfolding heard
 judging l n b e = judging-in (l .phase) l n b e
 
@@ -67,16 +73,23 @@ module _ {R X A C : Type 0} (U : Model R X A C) where
   -- what a turn of the line does, by what is to be done
   abbrev Does : Todo → Line → Line → R → Type 0
   Does Nothing l m q = Still l m q
-  Does Keep l m q = Still l m q
-  Does Judge l m q = Still l m q × Busy m q
   Does HandOver l m q = Still l m q
   Does Nak l m q = Still l m q
-  Does NakAndLose l m q = Closes l m q
-  Does Refuse l m q = Closes l m q
-  Does Lose l m q = Closes l m q
+  Does LastNak l m q = Closes l m q
+  Does CloseRefused l m q = Closes l m q
+  Does CloseUnknown l m q = Closes l m q
 
   abbrev Turns : Line → R → Turn → Type 0
   Turns l q t = Does (t .todo) l (t .line) q
+
+  -- and what a byte does
+  abbrev Hears : Heard → Line → Line → R → Type 0
+  Hears Keep l m q = Still l m q
+  Hears Judge l m q = Still l m q × Busy m q
+  Hears (Do t) l m q = Does t l m q
+
+  abbrev Heeds : Line → R → Hearing → Type 0
+  Heeds l q t = Hears (t .heard) l (t .line) q
 
   module _ (l : Line) (q : R) where
     -- the command stays open on a line with as many accepted
@@ -103,13 +116,13 @@ module _ {R X A C : Type 0} (U : Model R X A C) where
     starts left naks h =
         record { accepted = refl; count = sym (w .count); stands = (open-on l q (starting l left naks) (w .is) (w .is .least) (w .is .most) h refl, refl) }
 
-    -- so many bytes of an answer are gathered
-    gathers : (left got : ℕ) → 1 ≤ got → got < U .bytes .span q → Still l (inside l left got) q
-    gathers left got g h =
+    -- so many bytes of an answer are insideByte
+    gathers : (left gathered : ℕ) → 1 ≤ gathered → gathered < U .bytes .span q → Still l (inside l left gathered) q
+    gathers left gathered g h =
         record {
           accepted = refl;
           count = sym (w .count);
-          stands = (open-on l q (inside l left got) (w .is) (w .is .least) (w .is .most) (w .is .naks) refl, g, h);
+          stands = (open-on l q (inside l left gathered) (w .is) (w .is .least) (w .is .most) (w .is .naks) refl, g, h);
         }
 
     -- the frame is handed over again
@@ -117,13 +130,13 @@ module _ {R X A C : Type 0} (U : Model R X A C) where
     hands n g h = record { accepted = refl; count = sym (w .count); stands = open-on l q (handedAgain l n) (w .is) g h (w .is .naks) refl }
 
     -- each turn of a line with a command open
-    first-turns : (b : ℕ) → Turns l q (firstByte l b)
+    first-turns : (b : ℕ) → Heeds l q (firstByte l b)
     unfolding firstByte
     first-turns b =
-        pick (Turns l q) (same b 0x06) _ _
+        pick (Heeds l q) (same b 0x06) _ _
         (λ h. starts answerWait (l .naks) (w .is .naks))
-        (λ n. pick (Turns l q) (same b _) _ _
-        (λ h. pick (Turns l q) (under (l .handed) _) _ _ (λ g. hands (l .handed + 1) (omega (arith, w .is .least)) (omega arith)) (λ g. closes _))
+        (λ n. pick (Heeds l q) (same b _) _ _
+        (λ h. pick (Heeds l q) (under (l .handed) _) _ _ (λ g. hands (l .handed + 1) (omega (arith, w .is .least)) (omega arith)) (λ g. closes _))
         (λ m. closes _))
 
     bad-turns : Turns l q (badFrame l)
@@ -131,18 +144,18 @@ module _ {R X A C : Type 0} (U : Model R X A C) where
     bad-turns =
         pick (Turns l q) (under (l .naks) (nakLimit - 1)) _ _ (λ h. starts nakWait (l .naks + 1) (omega arith)) (λ n. closes _)
 
-    start-turns : (b : ℕ) → Stands U (l .phase) l q → Turns l q (startByte l b)
+    start-turns : (b : ℕ) → Stands U (l .phase) l q → Heeds l q (startByte l b)
     unfolding startByte
     start-turns b st =
-        pick (Turns l q) (same b 0x01) _ _
+        pick (Heeds l q) (same b 0x01) _ _
         (λ h. gathers frameWait 1 (lit≤ tt) (K .least q (w .is .sent)))
         (λ n. goes-on l q (l .left) st)
 
-    gathered-turns : Stands U (l .phase) l q → Turns l q (gathered l (U .bytes .span q))
-    unfolding gathered
+    gathered-turns : Stands U (l .phase) l q → Heeds l q (insideByte l (U .bytes .span q))
+    unfolding insideByte
     gathered-turns st =
-        pick (Turns l q) (under (l .got + 1) (U .bytes .span q)) _ _
-        (λ h. gathers (l .left) (l .got + 1) (omega arith) h)
+        pick (Heeds l q) (under (l .gathered + 1) (U .bytes .span q)) _ _
+        (λ h. gathers (l .left) (l .gathered + 1) (omega arith) h)
         (λ n. (goes-on l q (l .left) st, w))
 
   module _ (K : Lawful U) (l : Line) (q : R) (st : Stands U (l .phase) l q) where
@@ -154,12 +167,12 @@ module _ {R X A C : Type 0} (U : Model R X A C) where
     live Inside e o = record { is = subst (λ (p : Phase). Stands U p l q) e st .0; count = ap (λ (p : Phase). settled p (l .accepted)) e }
 
     -- a byte, and a tick
-    heard-turns : (b : ℕ) → Turns l q (heard l (U .bytes .span q) b)
+    heard-turns : (b : ℕ) → Heeds l q (heard l (U .bytes .span q) b)
     unfolding heard
     heard-turns b = by (l .phase) refl
       where
-        by : (p : Phase) → l .phase ≡ p → Turns l q (heardIn p l (U .bytes .span q) b)
-        by Idle e = goes-on l q (l .need) st
+        by : (p : Phase) → l .phase ≡ p → Heeds l q (heardIn p l (U .bytes .span q) b)
+        by Idle e = goes-on l q (l .quiet) st
         by First e = first-turns K l q (live First e refl) b
         by Start e = start-turns K l q (live Start e refl) b st
         by Inside e = gathered-turns K l q (live Inside e refl) st
@@ -191,43 +204,41 @@ module _ {R X A C : Type 0} (U : Model R X A C) where
         record {
           stands = t .stands;
           commands = omega (arith, k .commands, t .accepted);
-          books = λ c. bounded-longer (k .books c) (omega (arith, t .accepted)) (omega (arith, t .count));
+          books = λ c. bounded-longer (k .books c) (le-of-eq (ap (λ (n : ℕ). U .greatest * n) (sym (t .accepted)))) (le-of-eq (ap (λ (n : ℕ). U .greatest * n) (sym (t .count))));
           store = full;
         }
 
     -- a command closed, its notes booked
     closes-sound : (need : ℕ) (x : A) → Closes (s .line) m (s .asks)
-        → ((c : C) → Bounded (s .line .accepted) (m .accepted) (U .cassette x c)) → Sound U (with (closed m need) x)
+        → ((c : C) → Within (U .greatest) (s .line .accepted) (m .accepted) (U .cassette x c)) → Sound U (with (closed m need) x)
     closes-sound need x t b =
         record {
           stands = tt;
           commands = omega (arith, k .commands, t .accepted);
-          books = λ c. bounded-longer (b c) (omega (arith, t .accepted)) (le-refl _);
+          books = λ c. bounded-longer (b c) (le-of-eq (ap (λ (n : ℕ). U .greatest * n) (sym (t .accepted)))) (le-refl _);
           store = full;
         }
 
     -- by what is to be done
-    refused-sound : (need : ℕ) (t : Closes (s .line) m (s .asks)) → Sound U (with (closed m need) (U .refuses (s .account) (s .asks)))
+    refused-sound : (need : ℕ) (t : Closes (s .line) m (s .asks)) → Sound U (with (closed m need) (U .closes-refused (s .account) (s .asks)))
     refused-sound need t =
         closes-sound need _ t (λ c.
-        subst (Bounded (s .line .accepted) (m .accepted)) (sym (K .refuses (s .account) (s .asks) c))
-        (sums-refused (k .books c) (U .bytes .wants (s .asks) c) (K .modest (s .asks) c (t .sent)) (t .count)))
+        subst (Within (U .greatest) (s .line .accepted) (m .accepted)) (sym (K .closes-refused (s .account) (s .asks) c))
+        (sums-refused (k .books c) (U .bytes .wants (s .asks) c) (K .modest (s .asks) c (t .sent)) (one-more (U .greatest) _ _ (t .count))))
 
-    unknown-sound : (need : ℕ) (t : Closes (s .line) m (s .asks)) → Sound U (with (closed m need) (U .loses (s .account) (s .asks)))
+    unknown-sound : (need : ℕ) (t : Closes (s .line) m (s .asks)) → Sound U (with (closed m need) (U .closes-unknown (s .account) (s .asks)))
     unknown-sound need t =
         closes-sound need _ t (λ c.
-        subst (Bounded (s .line .accepted) (m .accepted)) (sym (K .loses (s .account) (s .asks) c))
-        (sums-unknown (k .books c) (U .bytes .wants (s .asks) c) (K .modest (s .asks) c (t .sent)) (t .count)))
+        subst (Within (U .greatest) (s .line .accepted) (m .accepted)) (sym (K .closes-unknown (s .account) (s .asks) c))
+        (sums-unknown (k .books c) (U .bytes .wants (s .asks) c) (K .modest (s .asks) c (t .sent)) (one-more (U .greatest) _ _ (t .count))))
 
     acted-sound : (t : Todo) (r : List ℕ) → Does t (s .line) m (s .asks) → Sound U (next U s (acted U t m (s .asks) r) store)
     acted-sound Nothing r d = still-sound d
-    acted-sound Keep r d = still-sound d
-    acted-sound Judge r d = still-sound (d .0)
     acted-sound HandOver r d = still-sound d
     acted-sound Nak r d = still-sound d
-    acted-sound NakAndLose r d = unknown-sound _ d
-    acted-sound Refuse r d = refused-sound _ d
-    acted-sound Lose r d = unknown-sound _ d
+    acted-sound LastNak r d = unknown-sound _ d
+    acted-sound CloseRefused r d = refused-sound _ d
+    acted-sound CloseUnknown r d = unknown-sound _ d
 
   -- ---- a frame that is judged
 
@@ -246,8 +257,8 @@ module _ {R X A C : Type 0} (U : Model R X A C) where
     judged-sound p frame (good x) e =
         let c = closes K (s .line) (s .asks) w quiet in
         closes-sound K s k (closed (s .line) quiet) (s .store) (k .store) _ _ c (λ i.
-        subst (Bounded (s .line .accepted) (s .line .accepted)) (sym (K .answers (s .account) (s .asks) frame x i (c .sent) e (p i)))
-        (sums-answered (k .books i) _ _ _ (K .modest (s .asks) i (c .sent)) (K .paid (s .asks) frame x i (c .sent) e) (K .spoilt (s .asks) frame x i (c .sent) e) (c .count)))
+        subst (Within (U .greatest) (s .line .accepted) (s .line .accepted)) (sym (K .answers (s .account) (s .asks) frame x i (c .sent) e (p i)))
+        (sums-answered (k .books i) _ _ _ (K .modest (s .asks) i (c .sent)) (K .paid (s .asks) frame x i (c .sent) e) (K .spoilt (s .asks) frame x i (c .sent) e) (one-more (U .greatest) _ _ (c .count))))
     judged-sound p frame void e = refused-sound K s k (closed (s .line) quiet) (s .store) (k .store) _ (closes K (s .line) (s .asks) w quiet)
 
   -- ---- a byte
@@ -257,21 +268,16 @@ module _ {R X A C : Type 0} (U : Model R X A C) where
     set-full : length (set (s .store) at b) ≡ U .longest
     set-full = length-set (s .store) at b ∙ k .store
 
-    byte-sound : (t : Todo) → (t ≡ Judge → (c : C) → U .cassette (s .account) c .pending .0 ≡ U .bytes .wants (s .asks) c) → Does t (s .line) m (s .asks)
+    byte-sound : (t : Heard) → (t ≡ Judge → (c : C) → U .cassette (s .account) c .pending .0 ≡ U .bytes .wants (s .asks) c) → Hears t (s .line) m (s .asks)
         → Sound U (next U s (byteActed U t m (s .asks) (s .store) at b r .step) (byteActed U t m (s .asks) (s .store) at b r .store))
     unfolding judgeStep
-    byte-sound Nothing g d = acted-sound K s k m (s .store) (k .store) Nothing r d
     byte-sound Keep g d = still-sound K s k m (set (s .store) at b) set-full d
     byte-sound Judge g d =
         let store = set (s .store) at b in
         let v : Box R A = record { line = m; asks = s .asks; account = s .account; store = store } in
         let frame = take (U .bytes .span (s .asks)) store in
         judged-sound K v (still-sound K s k m store set-full (d .0)) (d .1) r (g refl) frame (U .judges (s .asks) frame) refl
-    byte-sound HandOver g d = acted-sound K s k m (s .store) (k .store) HandOver r d
-    byte-sound Nak g d = acted-sound K s k m (s .store) (k .store) Nak r d
-    byte-sound NakAndLose g d = acted-sound K s k m (s .store) (k .store) NakAndLose r d
-    byte-sound Refuse g d = acted-sound K s k m (s .store) (k .store) Refuse r d
-    byte-sound Lose g d = acted-sound K s k m (s .store) (k .store) Lose r d
+    byte-sound (Do t) g d = acted-sound K s k m (s .store) (k .store) t r d
 
   -- ---- the calls
 
@@ -294,29 +300,30 @@ module _ {R X A C : Type 0} (U : Model R X A C) where
           stands = record { sent = sent; least = lit≤ tt; most = lit≤ tt; naks = lit< tt; one = omega arith };
           commands = omega arith;
           books = λ c.
-              subst (Bounded (s .line .accepted + 1) (s .line .accepted + 1 - 1)) (sym (K .opens (s .account) q c))
-              (sums-opened (k .books c) (U .bytes .wants q c) (K .modest q c sent) (omega arith));
+              subst (Within (U .greatest) (s .line .accepted + 1) (s .line .accepted + 1 - 1)) (sym (K .opens (s .account) q c))
+              (bounded-longer (sums-opened (k .books c) (U .bytes .wants q c) (K .modest q c sent) (le-refl _)) (one-more (U .greatest) _ _ (omega arith))
+              (le-of-eq (ap (λ (n : ℕ). U .greatest * n) (omega (arith, e)))));
           store = k .store;
         }
 
-    pub request-sound : (q : R) (r : List ℕ) → Sound U (called-request U s q r .box)
+    pub request-sound : (q : R) (r : List ℕ) → Sound U (called-request U s q r .session)
     unfolding called-request
-    request-sound q r = either-way (λ (w : After R X A). Sound U (w .box)) (requestRefusals U (s .line) q r) (left U s r) _ (λ why. k) (request-done q r)
+    request-sound q r = either-way (λ (w : After (Box R A) (Reply X)). Sound U (w .session)) (requestRefusals U (s .line) q r) (left U s r) _ (λ why. k) (request-done q r)
 
-    -- while bytes of an answer are gathered, what is open of a cassette is what was asked of it
+    -- while bytes of an answer are insideByte, what is open of a cassette is what was asked of it
     pub heard-sound : (b : ℕ) (r : List ℕ) → ((c : C) → isOpen (s .line .phase) ≡ true → U .cassette (s .account) c .pending .0 ≡ U .bytes .wants (s .asks) c)
-        → Sound U (called-byte U s b r .box)
+        → Sound U (called-byte U s b r .session)
     unfolding called-byte heardStep
     heard-sound b r g =
         let t = heard (s .line) (U .bytes .span (s .asks)) b in
-        either-way (λ (w : After R X A). Sound U (w .box)) (byteRefusals U r) (left U s r) _
+        either-way (λ (w : After (Box R A) (Reply X)). Sound U (w .session)) (byteRefusals U r) (left U s r) _
         (λ why. k)
-        (λ n. byte-sound K s k (t .line) (s .line .got) b r (t .todo) (λ e c. g c (judging (s .line) (U .bytes .span (s .asks)) b e)) (heard-turns K (s .line) (s .asks) (k .stands) b))
+        (λ n. byte-sound K s k (t .line) (s .line .gathered) b r (t .heard) (λ e c. g c (judging (s .line) (U .bytes .span (s .asks)) b e)) (heard-turns K (s .line) (s .asks) (k .stands) b))
 
-    pub passed-sound : (ms : ℕ) (r : List ℕ) → Sound U (called-tick U s ms r .box)
+    pub passed-sound : (ms : ℕ) (r : List ℕ) → Sound U (called-tick U s ms r .session)
     unfolding called-tick
     passed-sound ms r =
         let t = passed (s .line) ms in
-        either-way (λ (w : After R X A). Sound U (w .box)) (tickRefusals U ms r) (left U s r) _
+        either-way (λ (w : After (Box R A) (Reply X)). Sound U (w .session)) (tickRefusals U ms r) (left U s r) _
         (λ why. k)
         (λ n. acted-sound K s k (t .line) (s .store) (k .store) (t .todo) r (passed-turns K (s .line) (s .asks) (k .stands) ms))

@@ -5,11 +5,12 @@ use mathlib.Core.List.{List}
 use native.Mathlib.Nat.{add-zero}
 use native.Mathlib.Omega.{arith}
 use borrow.Author.Tests.{le-leb}
-use Rattle.numbers.specs.Rules.{atMost}
-use Rattle.numbers.proofs.Rules.{pick}
+use Rattle.refusals.specs.Rules.{atMost}
+use Rattle.refusals.proofs.Rules.{pick}
 use Rattle.ledger.specs.Account.{Dispenser, Totals, waiting, answered-by, turned-down, in-doubt, with-share}
 use Rattle.exchange_rules.specs.Sums.{notes, plus, sums, sumsOpened, sumsAnswered, sumsRefused, sumsUnknown, sumsRejected}
-use Rattle.exchange_rules.specs.Machine.{plain, Bounded}
+use Rattle.exchange_rules.specs.Machine.{plain}
+use Rattle.exchange_rules.specs.Kept.{Bounded}
 use Rattle.exchange_rules.specs.declared.notes.Notes.{Notes}
 use Rattle.exchange_rules.specs.declared.notes.Sums.{Sums}
 
@@ -62,7 +63,7 @@ apart e =
 
 -- every sum of a cassette has room for one answer more
 abbrev pub Roomy : Sums → Type 0
-Roomy s = Bounded 1_000_000 1_000_000 s
+Roomy s = Bounded 255 255_000_000 255_000_000 s
 
 -- ---- one cassette of one command
 

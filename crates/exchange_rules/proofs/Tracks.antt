@@ -1,35 +1,41 @@
 -- A session over a lawful unit stands, after each call, where the history of the calls says: demand 3 of the steps, once for every unit and any cassettes.
 -- Assumes nothing.
-use Prim.Native.Nat.{ℕ, _+_, _-_, _≤_, _<_}
+use Prim.Native.Nat.{ℕ, _+_, _-_, _*_, _≤_, _<_}
 use mathlib.Core.Path.{_≡_, refl, sym, ap, _∙_, subst}
 use mathlib.Core.Bool.{true, false}
 use mathlib.Core.List.{List, [], _∷_, _++_, append-assoc, append-nil}
 use mathlib.Core.Logic.{inl, inr}
 use native.Mathlib.Numerals.{add-one}
 use native.Mathlib.Omega.{arith}
+use native.Mathlib.Nat.{le-trans, mul-le-mul-left, mul-le-mul-right}
 use lib.Dec.{lit≤}
 use lib.ListN.{length, take, set, length-set}
 use lib.Seq.{length-take-le, take-suc-set}
 use borrow.Author.Tests.{lt-ltb}
-use Rattle.numbers.specs.Rules.{under, atMost, same}
-use Rattle.numbers.proofs.Rules.{pick, either-way, certain}
-use Rattle.ledger.specs.Events.{Deed, asks, hears, waits as passes, goes-on, closes, done, History, isFrame, bytes, since}
+use Rattle.refusals.specs.Rules.{under, atMost, same}
+use Rattle.refusals.proofs.Rules.{pick, either-way, certain}
+use Rattle.ledger.specs.Events.{Deed, asks, hears, waits as passes, own, goes-on, closes, done, History, isFrame, bytes, since}
 use Rattle.ledger.specs.Line.{isOpen as isOpenIn, quietTime, quietNeeded, accepted}
 use Rattle.ledger.specs.Account.{Ending, answered, refused, unknown, Totals, waiting, answered-by, turned-down, in-doubt, lastOf, commands, with-share, totals, sums}
+use Rattle.ledger.specs.Calls.{After, told}
 use Rattle.ledger.specs.Sent.{Sends}
 use Rattle.ledger.proofs.Laws.{last-of, OnLine, since-more}
 use Rattle.ledger.proofs.Follows.{Stage, idle, first, start, inside, View, Rules, OpenIn, IdleIn, At, Follows, declined-follows, open-still, idle-still, still-follows, open-kept, fate-by, again-follows, closes-follows, opened-follows}
 use Rattle.exchange_rules.specs.Limits.{quiet, longQuiet, answerWait, nakWait, frameWait, handOvers, nakLimit}
-use Rattle.exchange_rules.specs.Exchange.{isOpen, turn, closed, handedAgain, starting, inside as within, waits, opened, firstByte, badFrame, startByte, gathered, heardIn, heard, expiredIn, expired, passed}
-use Rattle.exchange_rules.specs.Machine.{Model, Lawful, Verdict, bad, good, void, Box, StepAfter, ByteAfter, After, none, by-answer, by-refusal, by-doubt, doneAfter, told, quietAfter, shut, acted, badStep, judgedStep, judgeStep, byteActed, byteRefusals, tickRefusals, requestRefusals, next, opening, left, called-request, heardStep, ofStep, called-byte, called-tick, plain, Live, Stands, settled, Bounded, Sound}
+use Rattle.exchange_rules.specs.Exchange.{isOpen, turn, hearing, closed, handedAgain, starting, inside as within, waits, opened, firstByte, badFrame, startByte, insideByte, heardIn, heard, expiredIn, expired, passed}
+use Rattle.exchange_rules.specs.Machine.{Model, Verdict, bad, good, void, Reply, Box, StepAfter, ByteAfter, none, by-answer, by-refusal, by-doubt, doneAfter, ending, quietAfter, shut, acted, badStep, judgedStep, judgeStep, byteActed, byteRefusals, tickRefusals, requestRefusals, next, opening, left, called-request, heardStep, ofStep, called-byte, called-tick, plain}
+use Rattle.exchange_rules.specs.Kept.{Live, Stands, settled, Sound}
+use Rattle.exchange_rules.specs.Owed.{Lawful}
 use Rattle.exchange_rules.specs.declared.line.Phase.{Phase}
 use Rattle.exchange_rules.specs.declared.line.Phase.the-variants.{Idle, First, Start, Inside}
 use Rattle.exchange_rules.specs.declared.line.Line.{Line}
-use Rattle.exchange_rules.specs.declared.line.Todo.the-variants.{Nothing, Keep, HandOver}
+use Rattle.exchange_rules.specs.declared.line.Todo.the-variants.{Nothing, HandOver}
+use Rattle.exchange_rules.specs.declared.line.Heard.the-variants.{Keep, Do}
+use Rattle.exchange_rules.specs.declared.line.Hearing.{Hearing}
 use Rattle.exchange_rules.specs.declared.line.Turn.{Turn}
 use Rattle.exchange_rules.specs.declared.notes.Sums.{Sums}
 use Rattle.exchange_rules.proofs.Shown.{Roomy, together, apart, shows-opened, shows-refused, shows-unknown, shows-answered}
-use Rattle.exchange_rules.proofs.Bounds.{bounded-longer}
+use Rattle.exchange_rules.proofs.Bounds.{bounded-longer, bounded-wider}
 use Rattle.exchange_rules.proofs.Keeping.{settled-most}
 
 abbrev pub stage : Phase → Stage
@@ -39,7 +45,7 @@ stage Start = start
 stage Inside = inside
 
 -- what is put at the start of a room that is long enough
-one-put : (r : List ℕ) (b : ℕ) → 0 < length r → take 1 (set r 0 b) ≡ b ∷ []
+pub one-put : (r : List ℕ) (b : ℕ) → 0 < length r → take 1 (set r 0 b) ≡ b ∷ []
 one-put r b h = take-suc-set r 0 b h
 
 -- nothing, and a single byte, is no frame
@@ -60,8 +66,8 @@ module _ {R X A C : Type 0} (U : Model R X A C) where
         stage = stage (s .line .phase);
         asks = s .asks;
         handed = s .line .handed;
-        gathered = take (s .line .got) (s .store);
-        need = s .line .need;
+        gathered = take (s .line .gathered) (s .store);
+        quiet = s .line .quiet;
         left = s .line .left;
         count = s .line .accepted;
         kept = λ c. plain (U .cassette (s .account) c);
@@ -70,64 +76,62 @@ module _ {R X A C : Type 0} (U : Model R X A C) where
   abbrev pub rules : Rules R C
   rules = record { unit = U .bytes; layout = U .layout; limit = handOvers; after = quietAfter U; fresh = quiet }
 
-  abbrev pub Tracks : Box R A → History R Ending → Type 0
+  abbrev pub Tracks : {O : Type 0} → Box R A → History R O Ending → Type 0
   Tracks s h = Follows rules (view s) h
 
-  -- after a step, with what its caller was told
-  abbrev Good : Box R A → History R Ending → Deed R → StepAfter X → List ℕ → Type 0
-  Good s h d w store = Tracks (next U s w store) (told d (w .reply) (w .room) ∷ h)
-
   -- a sound session's sums have room
-  pub roomy : (s : Box R A) → Sound U s → (c : C) → Roomy (U .cassette (s .account) c)
-  roomy s k c =
-      let h : settled (s .line .phase) (s .line .accepted) ≤ 1_000_000 = omega (arith, k .commands, settled-most (s .line .phase) (s .line .accepted)) in
-      bounded-longer (k .books c) (k .commands) h
+  pub roomy : Lawful U → (s : Box R A) → Sound U s → (c : C) → Roomy (U .cassette (s .account) c)
+  roomy K s k c =
+      let few : settled (s .line .phase) (s .line .accepted) ≤ 1_000_000 = omega (arith, k .commands, settled-most (s .line .phase) (s .line .accepted)) in
+      let far : (n : ℕ) → n ≤ 1_000_000 → U .greatest * n ≤ 255_000_000 = λ n h. le-trans (mul-le-mul-left (U .greatest) h) (mul-le-mul-right 1_000_000 (K .small)) in
+      bounded-wider (bounded-longer (k .books c) (far (s .line .accepted) (k .commands)) (far (settled (s .line .phase) (s .line .accepted)) few)) (K .small)
+
+  -- a command's frame is a frame
+  layout-frame : Lawful U → (q : R) → U .sendable q .holds → isFrame (U .layout q) ≡ true
+  unfolding isFrame
+  layout-frame K q h = lt-ltb 1 (length (U .layout q)) (K .long q h)
+
+  -- another line and store, and the rest as it was
+  abbrev moved : Box R A → Line → List ℕ → Box R A
+  moved s m store = record { line = m; asks = s .asks; account = s .account; store = store }
+
+module _ {R X A C O : Type 0} (U : Model R X A C) where
+  -- after a step, with what its caller was told
+  abbrev Good : Box R A → History R O Ending → Deed R O → StepAfter X → List ℕ → Type 0
+  Good s h d w store = Tracks U (next U s w store) (told ending d (w .reply) (w .room) ∷ h)
 
   -- what may be sent
-  nothing-sent : (h : History R Ending) (d : Deed R) → OnLine d → Sends (U .bytes) (U .layout) h d []
+  nothing-sent : (h : History R O Ending) (d : Deed R O) → OnLine d → Sends (U .bytes) (U .layout) h d []
   nothing-sent h (asks q) o = absurd o
   nothing-sent h (hears b) o = inl refl
   nothing-sent h (passes ms) o = inl refl
-
-  nak-sent : (h : History R Ending) (d : Deed R) → OnLine d → Sends (U .bytes) (U .layout) h d (0x15 ∷ [])
-  nak-sent h (asks q) o = absurd o
-  nak-sent h (hears b) o = inr (inr (inl refl))
-  nak-sent h (passes ms) o = inr refl
+  nothing-sent h (own w) o = refl
 
   module _ (K : Lawful U) where
-    -- a command's frame is a frame
-    layout-frame : (q : R) → U .sendable q .holds → isFrame (U .layout q) ≡ true
-    unfolding isFrame
-    layout-frame q h = lt-ltb 1 (length (U .layout q)) (K .long q h)
-
     -- ---- the moves of a session, each with what its caller was told
 
-    -- another line and store, and the rest as it was
-    abbrev moved : Box R A → Line → List ℕ → Box R A
-    moved s m store = record { line = m; asks = s .asks; account = s .account; store = store }
-
-    module _ (s : Box R A) (h : History R Ending) (k : Sound U s) (t : Tracks s h) where
+    module _ (s : Box R A) (h : History R O Ending) (k : Sound U s) (t : Tracks U s h) where
       -- the place and the stand, in a phase that is known
-      at : {p : Phase} → s .line .phase ≡ p → At rules (stage p) (view s) h
-      at e = subst (λ (p : Phase). At rules (stage p) (view s) h) e (t .place)
+      at : {p : Phase} → s .line .phase ≡ p → At (rules U) (stage p) (view U s) h
+      at e = subst (λ (p : Phase). At (rules U) (stage p) (view U s) h) e (t .place)
 
       stood : {p : Phase} → s .line .phase ≡ p → Stands U p (s .line) (s .asks)
       stood e = subst (λ (p : Phase). Stands U p (s .line) (s .asks)) e (k .stands)
 
-      module _ (d : Deed R) (o : OnLine d) where
+      module _ (d : Deed R O) (o : OnLine d) where
         -- nothing is put, and nothing closes
         quiet-good : (m : Line) (store : List ℕ) → m .accepted ≡ s .line .accepted
-            → At rules (stage (m .phase)) (view (moved s m store)) (done d [] goes-on ∷ h)
-            → Tracks (moved s m store) (done d [] goes-on ∷ h)
-        quiet-good m store g p = still-follows rules o none-frame (view (moved s m store)) t (λ c. refl) g (nothing-sent h d o) p
+            → At (rules U) (stage (m .phase)) (view U (moved U s m store)) (done d [] goes-on ∷ h)
+            → Tracks U (moved U s m store) (done d [] goes-on ∷ h)
+        quiet-good m store g p = still-follows (rules U) o none-frame (view U (moved U s m store)) t (λ c. refl) g (nothing-sent h d o) p
 
-        module _ (x : OpenIn rules (view s) h) (op : Live U (s .line) (s .asks)) where
+        module _ (x : OpenIn (rules U) (view U s) h) (op : Live U (s .line) (s .asks)) where
           -- the sums of a cassette while the command is open
           abbrev older : C → Totals
           older c = totals (U .bytes) (x .older) c
 
           held : (c : C) → plain (U .cassette (s .account) c) ≡ with-share (U .bytes) (older c) waiting (s .asks) c
-          held c = open-kept rules (view s) h t x c
+          held c = open-kept (rules U) (view U s) h t x c
 
           -- what is open of it is what was asked
           pending : (c : C) → U .cassette (s .account) c .pending .0 ≡ U .bytes .wants (s .asks) c
@@ -135,55 +139,56 @@ module _ {R X A C : Type 0} (U : Model R X A C) where
           pending c = omega (arith, apart (held c) .pending, x .over c)
 
           wanted : (c : C) → U .bytes .wants (s .asks) c ≤ 255
-          wanted c = K .modest (s .asks) c (op .sent)
+          wanted c = le-trans (K .modest (s .asks) c (op .sent)) (K .small)
 
-          refused-kept : (c : C) → plain (U .cassette (U .refuses (s .account) (s .asks)) c) ≡ with-share (U .bytes) (older c) turned-down (s .asks) c
+          refused-kept : (c : C) → plain (U .cassette (U .closes-refused (s .account) (s .asks)) c) ≡ with-share (U .bytes) (older c) turned-down (s .asks) c
           refused-kept c =
-              ap plain (K .refuses (s .account) (s .asks) c)
-              ∙ together (shows-refused (U .bytes) (U .cassette (s .account) c) (older c) (s .asks) c (roomy s k c) (apart (held c)) (x .over c) (wanted c))
+              ap plain (K .closes-refused (s .account) (s .asks) c)
+              ∙ together (shows-refused (U .bytes) (U .cassette (s .account) c) (older c) (s .asks) c (roomy U K s k c) (apart (held c)) (x .over c) (wanted c))
 
-          unknown-kept : (c : C) → plain (U .cassette (U .loses (s .account) (s .asks)) c) ≡ with-share (U .bytes) (older c) in-doubt (s .asks) c
+          unknown-kept : (c : C) → plain (U .cassette (U .closes-unknown (s .account) (s .asks)) c) ≡ with-share (U .bytes) (older c) in-doubt (s .asks) c
           unknown-kept c =
-              ap plain (K .loses (s .account) (s .asks) c)
-              ∙ together (shows-unknown (U .bytes) (U .cassette (s .account) c) (older c) (s .asks) c (roomy s k c) (apart (held c)) (x .over c) (wanted c))
+              ap plain (K .closes-unknown (s .account) (s .asks) c)
+              ∙ together (shows-unknown (U .bytes) (U .cassette (s .account) c) (older c) (s .asks) c (roomy U K s k c) (apart (held c)) (x .over c) (wanted c))
 
           answered-kept : (f : List ℕ) (v : X) → U .judges (s .asks) f ≡ good v
               → (c : C) → plain (U .cassette (U .answers (s .account) (s .asks) v) c) ≡ with-share (U .bytes) (older c) (answered-by f) (s .asks) c
           answered-kept f v e c =
               ap plain (K .answers (s .account) (s .asks) f v c (op .sent) e (pending c))
-              ∙ together (shows-answered (U .bytes) (U .cassette (s .account) c) (older c) (s .asks) c (roomy s k c) (apart (held c)) (x .over c)
-              f _ _ refl refl (wanted c) (K .paid (s .asks) f v c (op .sent) e) (K .spoilt (s .asks) f v c (op .sent) e))
+              ∙ together (shows-answered (U .bytes) (U .cassette (s .account) c) (older c) (s .asks) c (roomy U K s k c) (apart (held c)) (x .over c)
+              f _ _ refl refl (wanted c) (le-trans (K .paid (s .asks) f v c (op .sent) e) (K .small)) (le-trans (K .spoilt (s .asks) f v c (op .sent) e) (K .small)))
 
           -- the command closes, and the account with it
           closes-good : (put : List ℕ) → isFrame put ≡ false → Sends (U .bytes) (U .layout) h d put → (end : Ending) (account : A) (store : List ℕ)
-              → ((c : C) → plain (U .cassette account c) ≡ with-share (U .bytes) (older c) (fate-by rules (view s) h d put end) (s .asks) c)
-              → Tracks (record { line = closed (s .line) (quietAfter U (s .asks) end); asks = s .asks; account = account; store = store }) (done d put (closes end) ∷ h)
+              → ((c : C) → plain (U .cassette account c) ≡ with-share (U .bytes) (older c) (fate-by (rules U) (view U s) h d put end) (s .asks) c)
+              → Tracks U (record { line = closed (s .line) (quietAfter U (s .asks) end); asks = s .asks; account = account; store = store }) (done d put (closes end) ∷ h)
           closes-good put e w end account store kept =
-              closes-follows rules (view s) h t x d o put e w end
-              (view (record { line = closed (s .line) (quietAfter U (s .asks) end); asks = s .asks; account = account; store = store })) refl refl refl refl kept
+              closes-follows (rules U) (view U s) h t x d o put e w end
+              (view U (record { line = closed (s .line) (quietAfter U (s .asks) end); asks = s .asks; account = account; store = store })) refl refl refl refl kept
 
           module _ (r store : List ℕ) where
             refuse-good : Good s h d (doneAfter (shut U (s .asks) quiet (s .line)) 0 by-refusal r) store
             refuse-good = closes-good [] none-frame (nothing-sent h d o) refused _ store refused-kept
 
             lost-good : (put : List ℕ) → isFrame put ≡ false → Sends (U .bytes) (U .layout) h d put
-                → Tracks (next U s (doneAfter (shut U (s .asks) longQuiet (s .line)) 0 by-doubt r) store) (done d put (closes unknown) ∷ h)
+                → Tracks U (next U s (doneAfter (shut U (s .asks) longQuiet (s .line)) 0 by-doubt r) store) (done d put (closes unknown) ∷ h)
             lost-good put e w = closes-good put e w unknown _ store unknown-kept
 
             lose-good : Good s h d (doneAfter (shut U (s .asks) longQuiet (s .line)) 0 by-doubt r) store
             lose-good = lost-good [] none-frame (nothing-sent h d o)
 
-            module _ (long : 0 < length r) where
+            -- where 15h may be sent
+            module _ (long : 0 < length r) (may : Sends (U .bytes) (U .layout) h d (0x15 ∷ [])) where
               nak-lose-good : Good s h d (doneAfter (shut U (s .asks) longQuiet (s .line)) 1 by-doubt (set r 0 0x15)) store
               nak-lose-good =
-                  subst (λ (put : List ℕ). Tracks (next U s (doneAfter (shut U (s .asks) longQuiet (s .line)) 1 by-doubt (set r 0 0x15)) store) (done d put (closes unknown) ∷ h))
-                  (sym (one-put r 0x15 long)) (lost-good (0x15 ∷ []) (one-frame 0x15) (nak-sent h d o))
+                  subst (λ (put : List ℕ). Tracks U (next U s (doneAfter (shut U (s .asks) longQuiet (s .line)) 1 by-doubt (set r 0 0x15)) store) (done d put (closes unknown) ∷ h))
+                  (sym (one-put r 0x15 long)) (lost-good (0x15 ∷ []) (one-frame 0x15) may)
 
               nak-good : (left naks : ℕ) → Good s h d (doneAfter (starting (s .line) left naks) 1 none (set r 0 0x15)) store
               nak-good left naks =
-                  let w = view (moved s (starting (s .line) left naks) store) in
-                  subst (λ (put : List ℕ). Follows rules w (done d put goes-on ∷ h)) (sym (one-put r 0x15 long))
-                  (still-follows rules o (one-frame 0x15) w t (λ c. refl) refl (nak-sent h d o) (open-still rules o (one-frame 0x15) w refl refl x))
+                  let w = view U (moved U s (starting (s .line) left naks) store) in
+                  subst (λ (put : List ℕ). Follows (rules U) w (done d put goes-on ∷ h)) (sym (one-put r 0x15 long))
+                  (still-follows (rules U) o (one-frame 0x15) w t (λ c. refl) refl may (open-still (rules U) o (one-frame 0x15) w refl refl x))
 
               -- a bad frame, or a late one
               bad-good : (left : ℕ) → Good s h d (badStep U (waits (s .line) left) (s .asks) r) store
@@ -195,37 +200,37 @@ module _ {R X A C : Type 0} (U : Model R X A C) where
 
     -- ---- a byte
 
-    module _ (s : Box R A) (h : History R Ending) (k : Sound U s) (t : Tracks s h) (b : ℕ) (r : List ℕ) (long : 16 ≤ length r) where
+    module _ (s : Box R A) (h : History R O Ending) (k : Sound U s) (t : Tracks U s h) (b : ℕ) (r : List ℕ) (long : 16 ≤ length r) where
       -- what the exchange says of a byte is what the history then says
-      abbrev Heard : Turn → Type 0
+      abbrev Heard : Hearing → Type 0
       Heard u =
-          let w = byteActed U (u .todo) (u .line) (s .asks) (s .store) (s .line .got) b r in
+          let w = byteActed U (u .heard) (u .line) (s .asks) (s .store) (s .line .gathered) b r in
           Good s h (hears b) (w .step) (w .store)
 
       -- a byte that is ignored, or skipped
-      idle-heard : s .line .phase ≡ Idle → Heard (turn (waits (s .line) (s .line .need)) Nothing)
+      idle-heard : s .line .phase ≡ Idle → Heard (hearing (waits (s .line) (s .line .quiet)) (Do Nothing))
       unfolding quietTime
       idle-heard e =
-          let m = waits (s .line) (s .line .need) in
+          let m = waits (s .line) (s .line .quiet) in
           quiet-good s h k t (hears b) tt m (s .store) refl
-          (subst (λ (p : Phase). At rules (stage p) (view (moved s m (s .store))) (done (hears b) [] goes-on ∷ h)) (sym e)
-          (idle-still rules tt none-frame (view (moved s m (s .store))) refl (omega arith) (at s h k t e)))
+          (subst (λ (p : Phase). At (rules U) (stage p) (view U (moved U s m (s .store))) (done (hears b) [] goes-on ∷ h)) (sym e)
+          (idle-still (rules U) tt none-frame (view U (moved U s m (s .store))) refl (omega arith) (at s h k t e)))
 
-      skip-heard : s .line .phase ≡ Start → Heard (turn (waits (s .line) (s .line .left)) Nothing)
+      skip-heard : s .line .phase ≡ Start → Heard (hearing (waits (s .line) (s .line .left)) (Do Nothing))
       skip-heard e =
           let m = waits (s .line) (s .line .left) in
           quiet-good s h k t (hears b) tt m (s .store) refl
-          (subst (λ (p : Phase). At rules (stage p) (view (moved s m (s .store))) (done (hears b) [] goes-on ∷ h)) (sym e)
-          (open-still rules tt none-frame (view (moved s m (s .store))) refl refl (at s h k t e)))
+          (subst (λ (p : Phase). At (rules U) (stage p) (view U (moved U s m (s .store))) (done (hears b) [] goes-on ∷ h)) (sym e)
+          (open-still (rules U) tt none-frame (view U (moved U s m (s .store))) refl refl (at s h k t e)))
 
       -- the first byte since a hand-over; at 15h the frame is handed over again, and that is counted
-      again-heard : (x : OpenIn rules (view s) h) → since h ≡ [] → Live U (s .line) (s .asks) → b ≡ 0x15 → s .line .handed < handOvers
-          → (n : ℕ) → n ≡ s .line .handed + 1 → Heard (turn (handedAgain (s .line) n) HandOver)
+      again-heard : (x : OpenIn (rules U) (view U s) h) → since h ≡ [] → Live U (s .line) (s .asks) → b ≡ 0x15 → s .line .handed < handOvers
+          → (n : ℕ) → n ≡ s .line .handed + 1 → Heard (hearing (handedAgain (s .line) n) (Do HandOver))
       again-heard x fresh op z few n more =
-          let w = view (moved s (handedAgain (s .line) n) (s .store)) in
-          subst (λ (put : List ℕ). Follows rules w (done (hears b) put goes-on ∷ h)) (sym (K .laid (s .asks) r (op .sent) long))
-          (subst (λ (b : ℕ). Follows rules w (done (hears b) (U .layout (s .asks)) goes-on ∷ h)) (sym z)
-          (again-follows rules (view s) h t x w refl refl more (omega arith) (λ c. refl) refl fresh (layout-frame (s .asks) (op .sent))))
+          let w = view U (moved U s (handedAgain (s .line) n) (s .store)) in
+          subst (λ (put : List ℕ). Follows (rules U) w (done (hears b) put goes-on ∷ h)) (sym (K .laid (s .asks) r (op .sent) long))
+          (subst (λ (b : ℕ). Follows (rules U) w (done (hears b) (U .layout (s .asks)) goes-on ∷ h)) (sym z)
+          (again-follows (rules U) (view U s) h t x w refl refl more (omega arith) (λ c. refl) refl fresh (layout-frame U K (s .asks) (op .sent))))
 
       first-heard : s .line .phase ≡ First → Heard (firstByte (s .line) b)
       unfolding firstByte
@@ -235,7 +240,7 @@ module _ {R X A C : Type 0} (U : Model R X A C) where
           pick Heard (same b 0x06) _ _
           (λ g.
           let m = starting (s .line) answerWait (s .line .naks) in
-          quiet-good s h k t (hears b) tt m (s .store) refl (open-still rules tt none-frame (view (moved s m (s .store))) refl refl x))
+          quiet-good s h k t (hears b) tt m (s .store) refl (open-still (rules U) tt none-frame (view U (moved U s m (s .store))) refl refl x))
           (λ n. pick Heard (same b _) _ _
           (λ g. pick Heard (under (s .line .handed) handOvers) _ _
           (λ y. again-heard x (at s h k t e .1) op (omega (arith, g)) y _ (omega arith))
@@ -243,21 +248,21 @@ module _ {R X A C : Type 0} (U : Model R X A C) where
           (λ m. lose-good s h k t (hears b) tt x op r (s .store)))
 
       -- bytes of an answer: the store holds the last that came
-      kept-last : s .line .got < U .longest → take (s .line .got + 1) (set (s .store) (s .line .got) b) ≡ take (s .line .got) (s .store) ++ (b ∷ [])
-      kept-last g = rw add-one (take-suc-set (s .store) (s .line .got) b (omega (arith, k .store)))
+      kept-last : s .line .gathered < U .longest → take (s .line .gathered + 1) (set (s .store) (s .line .gathered) b) ≡ take (s .line .gathered) (s .store) ++ (b ∷ [])
+      kept-last g = rw add-one (take-suc-set (s .store) (s .line .gathered) b (omega (arith, k .store)))
 
-      keep-heard : (left got : ℕ) (before : List ℕ) → got ≡ s .line .got + 1 → s .line .got < U .longest → OpenIn rules (view s) h
-          → bytes h ≡ before ++ take (s .line .got) (s .store)
-          → Heard (turn (within (s .line) left got) Keep)
+      keep-heard : (left gathered : ℕ) (before : List ℕ) → gathered ≡ s .line .gathered + 1 → s .line .gathered < U .longest → OpenIn (rules U) (view U s) h
+          → bytes h ≡ before ++ take (s .line .gathered) (s .store)
+          → Heard (hearing (within (s .line) left gathered) Keep)
       unfolding bytes
-      keep-heard left got before n g x e =
-          let m = within (s .line) left got in
-          let store = set (s .store) (s .line .got) b in
+      keep-heard left gathered before n g x e =
+          let m = within (s .line) left gathered in
+          let store = set (s .store) (s .line .gathered) b in
           quiet-good s h k t (hears b) tt m store refl (
-            open-still rules tt none-frame (view (moved s m store)) refl refl x,
+            open-still (rules U) tt none-frame (view U (moved U s m store)) refl refl x,
             record {
               before = before;
-              came = ap (λ (l : List ℕ). l ++ (b ∷ [])) e ∙ append-assoc before (take (s .line .got) (s .store)) (b ∷ [])
+              came = ap (λ (l : List ℕ). l ++ (b ∷ [])) e ∙ append-assoc before (take (s .line .gathered) (s .store)) (b ∷ [])
                   ∙ ap (λ (l : List ℕ). before ++ l) (sym (kept-last g) ∙ ap (λ (i : ℕ). take i store) (sym n));
             },
           )
@@ -275,13 +280,13 @@ module _ {R X A C : Type 0} (U : Model R X A C) where
           (λ n. skip-heard e)
 
       -- the frame is full and is judged: it is the last bytes that came
-      module _ (x : OpenIn rules (view s) h) (op : Live U (s .line) (s .asks)) (store f : List ℕ)
+      module _ (x : OpenIn (rules U) (view U s) h) (op : Live U (s .line) (s .asks)) (store f : List ℕ)
           (last : lastOf (U .bytes .span (s .asks)) (bytes h ++ (b ∷ [])) ≡ f) where
         answer-good : (v : X) → U .judges (s .asks) f ≡ good v → (left : ℕ)
             → Good s h (hears b) (doneAfter (shut U (s .asks) quiet (waits (s .line) left)) 1 (by-answer v) (set r 0 0x06)) store
         unfolding bytes
         answer-good v e left =
-            subst (λ (put : List ℕ). Tracks (next U s (doneAfter (shut U (s .asks) quiet (s .line)) 1 (by-answer v) (set r 0 0x06)) store) (done (hears b) put (closes answered) ∷ h))
+            subst (λ (put : List ℕ). Tracks U (next U s (doneAfter (shut U (s .asks) quiet (s .line)) 1 (by-answer v) (set r 0 0x06)) store) (done (hears b) put (closes answered) ∷ h))
             (sym (one-put r 0x06 (omega arith)))
             (closes-good s h k t (hears b) tt x op (0x06 ∷ []) (one-frame 0x06) (inr (inl refl)) answered _ store
             (λ c.
@@ -291,17 +296,17 @@ module _ {R X A C : Type 0} (U : Model R X A C) where
         -- an answer which says that nothing was done
         void-good : (left : ℕ) → Good s h (hears b) (doneAfter (shut U (s .asks) quiet (waits (s .line) left)) 1 by-refusal (set r 0 0x06)) store
         void-good left =
-            subst (λ (put : List ℕ). Tracks (next U s (doneAfter (shut U (s .asks) quiet (s .line)) 1 by-refusal (set r 0 0x06)) store) (done (hears b) put (closes refused) ∷ h))
+            subst (λ (put : List ℕ). Tracks U (next U s (doneAfter (shut U (s .asks) quiet (s .line)) 1 by-refusal (set r 0 0x06)) store) (done (hears b) put (closes refused) ∷ h))
             (sym (one-put r 0x06 (omega arith)))
             (closes-good s h k t (hears b) tt x op (0x06 ∷ []) (one-frame 0x06) (inr (inl refl)) refused _ store (refused-kept s h k t (hears b) tt x op))
 
         judged-good : (v : Verdict X) → U .judges (s .asks) f ≡ v → (left : ℕ) → Good s h (hears b) (judgedStep U v (waits (s .line) left) (s .asks) r) store
-        judged-good bad e left = bad-good s h k t (hears b) tt x op r store (omega arith) left
+        judged-good bad e left = bad-good s h k t (hears b) tt x op r store (omega arith) (inr (inr (inl refl))) left
         judged-good (good v) e left = answer-good v e left
         judged-good void e left = void-good left
 
-      inside-heard : s .line .phase ≡ Inside → Heard (gathered (s .line) (U .bytes .span (s .asks)))
-      unfolding gathered judgeStep
+      inside-heard : s .line .phase ≡ Inside → Heard (insideByte (s .line) (U .bytes .span (s .asks)))
+      unfolding insideByte judgeStep
       inside-heard e =
           let n = U .bytes .span (s .asks) in
           let x = at s h k t e .0 in
@@ -309,18 +314,18 @@ module _ {R X A C : Type 0} (U : Model R X A C) where
           let op = stood s h k t e .0 in
           let few = stood s h k t e .2 in
           let most = K .most (s .asks) (op .sent) in
-          let short : s .line .got < U .longest = omega (arith, few, most) in
-          pick Heard (under (s .line .got + 1) n) _ _
-          (λ g. keep-heard (s .line .left) (s .line .got + 1) (y .before) refl short x (y .came))
+          let short : s .line .gathered < U .longest = omega (arith, few, most) in
+          pick Heard (under (s .line .gathered + 1) n) _ _
+          (λ g. keep-heard (s .line .left) (s .line .gathered + 1) (y .before) refl short x (y .came))
           (λ m.
-          let full : n ≡ s .line .got + 1 = omega (arith, few) in
-          let store = set (s .store) (s .line .got) b in
+          let full : n ≡ s .line .gathered + 1 = omega (arith, few) in
+          let store = set (s .store) (s .line .gathered) b in
           let f = take n store in
-          let whole : take (s .line .got) (s .store) ++ (b ∷ []) ≡ f = sym (kept-last short) ∙ ap (λ (i : ℕ). take i store) (sym full) in
-          let many : n ≡ length f = omega (arith, length-take-le n store (omega (arith, length-set (s .store) (s .line .got) b, k .store, most))) in
+          let whole : take (s .line .gathered) (s .store) ++ (b ∷ []) ≡ f = sym (kept-last short) ∙ ap (λ (i : ℕ). take i store) (sym full) in
+          let many : n ≡ length f = omega (arith, length-take-le n store (omega (arith, length-set (s .store) (s .line .gathered) b, k .store, most))) in
           judged-good x op store f
           (ap (λ (l : List ℕ). lastOf n (l ++ (b ∷ []))) (y .came)
-          ∙ ap (lastOf n) (append-assoc (y .before) (take (s .line .got) (s .store)) (b ∷ []) ∙ ap (λ (l : List ℕ). y .before ++ l) whole)
+          ∙ ap (lastOf n) (append-assoc (y .before) (take (s .line .gathered) (s .store)) (b ∷ []) ∙ ap (λ (l : List ℕ). y .before ++ l) whole)
           ∙ last-of (y .before) f n many)
           (U .judges (s .asks) f) refl (s .line .left))
 
@@ -336,14 +341,14 @@ module _ {R X A C : Type 0} (U : Model R X A C) where
 
     -- ---- a tick
 
-    module _ (s : Box R A) (h : History R Ending) (k : Sound U s) (t : Tracks s h) (ms : ℕ) (r : List ℕ) (long : 16 ≤ length r) where
+    module _ (s : Box R A) (h : History R O Ending) (k : Sound U s) (t : Tracks U s h) (ms : ℕ) (r : List ℕ) (long : 16 ≤ length r) where
       -- what the exchange says of a tick is what the history then says
       abbrev Passed : Turn → Type 0
       Passed u = Good s h (passes ms) (acted U (u .todo) (u .line) (s .asks) r) (s .store)
 
       -- with so much left of the wait
       abbrev left-with : ℕ → View R C
-      left-with left = view (moved s (waits (s .line) left) (s .store))
+      left-with left = view U (moved U s (waits (s .line) left) (s .store))
 
       -- a wait that goes on, or quiet that has been reached
       waiting-on : (left : ℕ) → (s .line .phase ≡ Idle → left ≡ s .line .left - ms) → Passed (turn (waits (s .line) left) Nothing)
@@ -351,12 +356,12 @@ module _ {R X A C : Type 0} (U : Model R X A C) where
       waiting-on left q =
           quiet-good s h k t (passes ms) tt (waits (s .line) left) (s .store) refl (by (s .line .phase) q (t .place))
         where
-          by : (p : Phase) → (p ≡ Idle → left ≡ s .line .left - ms) → At rules (stage p) (view s) h → At rules (stage p) (left-with left) (done (passes ms) [] goes-on ∷ h)
-          by Idle q x = idle-still rules tt none-frame (left-with left) refl (omega (arith, q refl, x .wait)) x
-          by First q x = (open-still rules tt none-frame (left-with left) refl refl (x .0), since-more h [] goes-on (passes ms) none-frame ∙ append-nil (since h) ∙ x .1)
-          by Start q x = open-still rules tt none-frame (left-with left) refl refl x
+          by : (p : Phase) → (p ≡ Idle → left ≡ s .line .left - ms) → At (rules U) (stage p) (view U s) h → At (rules U) (stage p) (left-with left) (done (passes ms) [] goes-on ∷ h)
+          by Idle q x = idle-still (rules U) tt none-frame (left-with left) refl (omega (arith, q refl, x .wait)) x
+          by First q x = (open-still (rules U) tt none-frame (left-with left) refl refl (x .0), since-more h [] goes-on (passes ms) none-frame ∙ append-nil (since h) ∙ x .1)
+          by Start q x = open-still (rules U) tt none-frame (left-with left) refl refl x
           by Inside q x =
-              (open-still rules tt none-frame (left-with left) refl refl (x .0), record { before = x .1 .before; came = append-nil (bytes h) ∙ x .1 .came })
+              (open-still (rules U) tt none-frame (left-with left) refl refl (x .0), record { before = x .1 .before; came = append-nil (bytes h) ∙ x .1 .came })
 
       expired-good : (ms < s .line .left → ⊥) → Passed (expired (s .line))
       unfolding expired badFrame badStep
@@ -366,7 +371,7 @@ module _ {R X A C : Type 0} (U : Model R X A C) where
           by Idle e = waiting-on 0 (λ i. omega (arith, certain (atMost (s .line .left) ms) (λ w. n (omega arith))))
           by First e = lose-good s h k t (passes ms) tt (at s h k t e .0) (stood s h k t e) r (s .store)
           by Start e = lose-good s h k t (passes ms) tt (at s h k t e) (stood s h k t e .0) r (s .store)
-          by Inside e = bad-good s h k t (passes ms) tt (at s h k t e .0) (stood s h k t e .0) r (s .store) (omega arith) (s .line .left)
+          by Inside e = bad-good s h k t (passes ms) tt (at s h k t e .0) (stood s h k t e .0) r (s .store) (omega arith) (inr refl) (s .line .left)
 
       passed-good : Passed (passed (s .line) ms)
       unfolding passed
@@ -375,46 +380,46 @@ module _ {R X A C : Type 0} (U : Model R X A C) where
 
     -- ---- the three calls
 
-    module _ (s : Box R A) (h : History R Ending) (k : Sound U s) (t : Tracks s h) where
+    module _ (s : Box R A) (h : History R O Ending) (k : Sound U s) (t : Tracks U s h) where
       -- with nothing open, the line is idle
-      idle-at : (p : Phase) → (isOpen p ≡ true → ⊥) → At rules (stage p) (view s) h → IdleIn rules (view s) h
+      idle-at : (p : Phase) → (isOpen p ≡ true → ⊥) → At (rules U) (stage p) (view U s) h → IdleIn (rules U) (view U s) h
       idle-at Idle n x = x
       idle-at First n x = absurd (n refl)
       idle-at Start n x = absurd (n refl)
       idle-at Inside n x = absurd (n refl)
 
       -- a request is accepted on an idle line
-      opened-good : (q : R) (r : List ℕ) → U .sendable q .holds → 16 ≤ length r → IdleIn rules (view s) h
-          → Tracks (opening U s q) (done (asks q) (take (U .hands q r .put) (U .hands q r .room)) goes-on ∷ h)
+      opened-good : (q : R) (r : List ℕ) → U .sendable q .holds → 16 ≤ length r → IdleIn (rules U) (view U s) h
+          → Tracks U (opening U s q) (done (asks q) (take (U .hands q r .put) (U .hands q r .room)) goes-on ∷ h)
       opened-good q r sent long x =
-          let w = view (opening U s q) in
-          subst (λ (put : List ℕ). Follows rules w (done (asks q) put goes-on ∷ h)) (sym (K .laid q r sent long))
-          (opened-follows rules (view s) w h t x refl refl (lit≤ tt) refl (layout-frame q sent)
+          let w = view U (opening U s q) in
+          subst (λ (put : List ℕ). Follows (rules U) w (done (asks q) put goes-on ∷ h)) (sym (K .laid q r sent long))
+          (opened-follows (rules U) (view U s) w h t x refl refl (lit≤ tt) refl (layout-frame U K q sent)
           (λ c.
           ap plain (K .opens (s .account) q c)
-          ∙ together (shows-opened (U .bytes) (U .cassette (s .account) c) (sums (U .bytes) h c) q c (roomy s k c) (apart (t .books c)) (x .over c) (K .modest q c sent))))
+          ∙ together (shows-opened (U .bytes) (U .cassette (s .account) c) (sums (U .bytes) h c) q c (roomy U K s k c) (apart (t .books c)) (x .over c) (le-trans (K .modest q c sent) (K .small)))))
 
-      pub request-tracks : (q : R) (r : List ℕ) → Tracks (called-request U s q r .box) (told (asks q) (called-request U s q r .reply) (called-request U s q r .room) ∷ h)
+      pub request-tracks : (q : R) (r : List ℕ) → Tracks U (called-request U s q r .session) (told ending (asks q) (called-request U s q r .reply) (called-request U s q r .room) ∷ h)
       unfolding called-request requestRefusals
       request-tracks q r =
-          either-way (λ (w : After R X A). Tracks (w .box) (told (asks q) (w .reply) (w .room) ∷ h)) (requestRefusals U (s .line) q r) (left U s r) _
-          (λ why. declined-follows rules (view s) h t)
+          either-way (λ (w : After (Box R A) (Reply X)). Tracks U (w .session) (told ending (asks q) (w .reply) (w .room) ∷ h)) (requestRefusals U (s .line) q r) (left U s r) _
+          (λ why. declined-follows (rules U) (view U s) h t)
           (λ n.
           opened-good q r (certain (U .sendable q) (n .1 .0)) (certain (atMost 16 (length r)) (λ w. n .0 (omega arith)))
           (idle-at (s .line .phase) (n .1 .1 .0) (t .place)))
 
-      pub byte-tracks : (b : ℕ) (r : List ℕ) → Tracks (called-byte U s b r .box) (told (hears b) (called-byte U s b r .reply) (called-byte U s b r .room) ∷ h)
+      pub byte-tracks : (b : ℕ) (r : List ℕ) → Tracks U (called-byte U s b r .session) (told ending (hears b) (called-byte U s b r .reply) (called-byte U s b r .room) ∷ h)
       unfolding called-byte heardStep byteRefusals
       byte-tracks b r =
-          either-way (λ (w : After R X A). Tracks (w .box) (told (hears b) (w .reply) (w .room) ∷ h)) (byteRefusals U r) (left U s r) _
-          (λ why. declined-follows rules (view s) h t)
+          either-way (λ (w : After (Box R A) (Reply X)). Tracks U (w .session) (told ending (hears b) (w .reply) (w .room) ∷ h)) (byteRefusals U r) (left U s r) _
+          (λ why. declined-follows (rules U) (view U s) h t)
           (λ n. heard-good s h k t b r (certain (atMost 16 (length r)) (λ w. n .0 (omega arith))))
 
-      pub tick-tracks : (ms : ℕ) (r : List ℕ) → Tracks (called-tick U s ms r .box) (told (passes ms) (called-tick U s ms r .reply) (called-tick U s ms r .room) ∷ h)
+      pub tick-tracks : (ms : ℕ) (r : List ℕ) → Tracks U (called-tick U s ms r .session) (told ending (passes ms) (called-tick U s ms r .reply) (called-tick U s ms r .room) ∷ h)
       unfolding called-tick tickRefusals
       tick-tracks ms r =
-          either-way (λ (w : After R X A). Tracks (w .box) (told (passes ms) (w .reply) (w .room) ∷ h)) (tickRefusals U ms r) (left U s r) _
-          (λ why. declined-follows rules (view s) h t)
+          either-way (λ (w : After (Box R A) (Reply X)). Tracks U (w .session) (told ending (passes ms) (w .reply) (w .room) ∷ h)) (tickRefusals U ms r) (left U s r) _
+          (λ why. declined-follows (rules U) (view U s) h t)
           (λ n. passed-good s h k t ms r (certain (atMost 16 (length r)) (λ w. n .0 (omega arith))))
 
       -- while a command is open, what is open of a cassette is what was asked of it

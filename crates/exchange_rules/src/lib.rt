@@ -3,6 +3,8 @@
 mod line;
 mod notes;
 
+pub use line::Heard;
+pub use line::Hearing;
 pub use line::Line;
 pub use line::Phase;
 pub use line::Todo;

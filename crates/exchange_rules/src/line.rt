@@ -15,7 +15,7 @@ pub struct Line {
     // Milliseconds left of the wait, or of the quiet that the next command needs.
     pub left: u64,
     // The quiet that the next command needs.
-    pub need: u64,
+    pub quiet: u64,
     // Commands accepted.
     pub accepted: u64,
     // Hand-overs of the open command.
@@ -23,31 +23,40 @@ pub struct Line {
     // 15h that we sent for the open command.
     pub naks: u64,
     // Bytes of an answer gathered.
-    pub got: usize,
+    pub gathered: usize,
     pub phase: Phase,
 }
 
 // What is to be done now.
 pub enum Todo {
     Nothing,
-    // Keep the byte in the gathering store.
-    Keep,
-    // Keep it, and judge the frame, which is full.
-    Judge,
     HandOver,
     // Send 15h.
     Nak,
     // Send 15h, and close as unknown.
-    NakAndLose,
+    LastNak,
     // Close as refused.
-    Refuse,
+    CloseRefused,
     // Close as unknown.
-    Lose,
+    CloseUnknown,
 }
 
 pub struct Turn {
     pub line: Line,
     pub todo: Todo,
+}
+
+// What a byte is: a byte of an answer, to be kept in the gathering store; the last one, after which the frame is judged; or no byte of an answer, and what is
+// to be done.
+pub enum Heard {
+    Keep,
+    Judge,
+    Do(Todo),
+}
+
+pub struct Hearing {
+    pub line: Line,
+    pub heard: Heard,
 }
 
 impl Line {
@@ -80,11 +89,11 @@ impl Line {
     {
         Line {
             left: Line::QUIET,
-            need: Line::QUIET,
+            quiet: Line::QUIET,
             accepted: 0,
             handed: 0,
             naks: 0,
-            got: 0,
+            gathered: 0,
             phase: Phase::Idle,
         }
     }

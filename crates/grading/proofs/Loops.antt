@@ -8,7 +8,7 @@ use lib.ListN.{length, drop}
 use borrow.Author.Tests.{le-ltb}
 use Rattle.dispenser_rules.specs.declared.account.Account.{Account}
 use Rattle.dispenser_rules.specs.Session.{sessionRequest, sessionByte, sessionTick}
-use Rattle.validator_rules.specs.Session.{sessionRequest as requestToo, sessionByte as byteToo, sessionTick as tickToo}
+use Rattle.validator_rules.specs.Session.{sessionRequest as takerRequest, sessionByte as takerByte, sessionTick as takerTick}
 use Rattle.validator_rules.specs.Limits.{types}
 use Rattle.validator_rules.specs.Bills.{bookedBy}
 use Rattle.validator_rules.specs.declared.bills.Bills.{Bills}
@@ -19,11 +19,12 @@ use Rattle.recording.specs.declared.Fault.{Fault}
 use Rattle.recording.specs.declared.Fault.the-variants.{Long}
 use Rattle.recording.specs.declared.Record.{Record}
 use Rattle.recording.specs.declared.Record.the-variants.{Request, DispenserByte, Tick, ValidatorByte, Command}
-use Rattle.recording.specs.declared.taking.Found.{Found}
-use Rattle.recording.specs.declared.taking.Found.the-variants.{Whole, Bad}
+use Rattle.recording.specs.declared.taking.NextRecord.{NextRecord}
+use Rattle.recording.specs.declared.taking.NextRecord.the-variants.{Whole, Bad}
 use Rattle.recording.proofs.Folds.{reading-end, reading-short, reading-long}
 use Rattle.recording.proofs.Starts.{whole-read, whole-says, bad-says}
-use Rattle.grading.specs.Replay.{Desk, freshDesk, declines, declinesToo, given, run, told, badFindings, replayed, replayOf, joined}
+use Rattle.grading.specs.Replay.{Desk, freshDesk, payerDeclines, takerDeclines, given, run, told, badFindings, replayed, replayOf}
+use Rattle.grading.specs.Scaffolding.{joined}
 use Rattle.grading.specs.declared.desk.Findings.{Findings}
 use Rattle.grading.specs.declared.desk.Run.{Run}
 
@@ -33,7 +34,7 @@ replayed-also d x (records xs) = refl
 replayed-also d x (bad why at) = refl
 
 -- f is what is found at i
-module _ (s : List ℕ) (i : ℕ) (h : i < length s) (f : Found) (e : f ≡ foundAt s i) where
+module _ (s : List ℕ) (i : ℕ) (h : i < length s) (f : NextRecord) (e : f ≡ foundAt s i) where
   pub gives : (d d′ : Desk) (x : Record) (n : ℕ) {o : Findings} → f ≡ Whole x n → d′ ≡ given d x
       → replayed d (readingFrom freshReader i (drop i s)) ≡ o → replayed d′ (readingFrom freshReader (i + n) (drop (i + n) s)) ≡ o
   gives d d′ x n q g p =
@@ -62,12 +63,12 @@ once true n = omega arith
 once false n = omega arith
 
 given-counts : (d : Desk) (x : Record) → (given d x .records ≡ d .records + 1) × (given d x .declined ≤ d .declined + 1)
-given-counts d (Request code upper lower) = (refl, once (declines (sessionRequest (d .dispenser) code upper lower (d .room) .reply)) (d .declined))
-given-counts d (DispenserByte b) = (refl, once (declines (sessionByte (d .dispenser) b (d .room) .reply)) (d .declined))
+given-counts d (Request code upper lower) = (refl, once (payerDeclines (sessionRequest (d .dispenser) code upper lower (d .room) .reply)) (d .declined))
+given-counts d (DispenserByte b) = (refl, once (payerDeclines (sessionByte (d .dispenser) b (d .room) .reply)) (d .declined))
 given-counts d (Tick ms) =
-    (refl, once (declines (sessionTick (d .dispenser) ms (d .room) .reply) || declinesToo (tickToo (d .validator) ms (d .wide) .reply)) (d .declined))
-given-counts d (ValidatorByte b) = (refl, once (declinesToo (byteToo (d .validator) b (d .wide) .reply)) (d .declined))
-given-counts d (Command code) = (refl, once (declinesToo (requestToo (d .validator) code [] (d .wide) .reply)) (d .declined))
+    (refl, once (payerDeclines (sessionTick (d .dispenser) ms (d .room) .reply) || takerDeclines (takerTick (d .validator) ms (d .room255) .reply)) (d .declined))
+given-counts d (ValidatorByte b) = (refl, once (takerDeclines (takerByte (d .validator) b (d .room255) .reply)) (d .declined))
+given-counts d (Command code) = (refl, once (takerDeclines (takerRequest (d .validator) code [] (d .room255) .reply)) (d .declined))
 
 pub counts : (d d′ : Desk) (x : Record) → d′ ≡ given d x → (d′ .records ≡ d .records + 1) × (d′ .declined ≤ d .declined + 1)
 counts d d′ x e =
@@ -75,9 +76,9 @@ counts d d′ x e =
 
 -- ---- the parts
 
-pub joins : (r : Run) {a b : Account} {bs cs : List Bills} (store second room wide : List ℕ) → a ≡ b → bs ≡ cs
-    → joined r a bs store second room wide ≡ joined r b cs store second room wide
-joins r store second room wide e f = ap₂ (λ x y. joined r x y store second room wide) e f
+pub joins : (r : Run) {a b : Account} {bs cs : List Bills} (store store255 room room255 : List ℕ) → a ≡ b → bs ≡ cs
+    → joined r a bs store store255 room room255 ≡ joined r b cs store store255 room room255
+joins r store store255 room room255 e f = ap₂ (λ x y. joined r x y store store255 room room255) e f
 
 -- a record that credits no bill leaves the bills as they were
 pub no-bill : (bs : List Bills) (y : ℕ) → types ≤ y → bs ≡ bookedBy bs y

@@ -7,14 +7,15 @@ use mathlib.Core.List.{List, [], _∷_}
 use native.Mathlib.Omega.{arith}
 use lib.ListN.{length}
 use Rattle.dispenser_rules.specs.Session.{freshSession}
-use Rattle.dispenser_rules.specs.Calls.{run as ran}
+use Rattle.ledger.specs.Calls.{run as ran}
+use Rattle.dispenser_rules.specs.Calls.{host}
 use Rattle.exchange_rules.specs.Machine.{plain}
-use Rattle.dispenser_rules.specs.History.{cassette}
+use Rattle.dispenser_rules.specs.Unit.{cassette}
 use Rattle.dispenser_rules.proofs.Demand3.{demand3}
 use Rattle.dispenser_rules.specs.declared.session.Session.{Session}
-use Rattle.validator_rules.specs.Session.{freshSession as freshToo}
-use Rattle.validator_rules.specs.Calls.{run as ranToo}
-use Rattle.validator_rules.specs.declared.session.Session.{Session as SessionToo}
+use Rattle.validator_rules.specs.Session.{freshSession as freshTaker}
+use Rattle.validator_rules.specs.Calls.{host as takerHost}
+use Rattle.validator_rules.specs.declared.session.Session.{Session as Taker}
 use Rattle.validator_rules.proofs.Agreeing.{kept-by-history}
 use Rattle.recording.specs.Record.{AllInRange}
 use Rattle.recording.proofs.Exact.{exactly-when}
@@ -22,10 +23,10 @@ use Rattle.recording.specs.Reading.{records, readRecording}
 use Rattle.recording.specs.declared.Record.{Record}
 use Rattle.recording.specs.declared.Record.the-variants.{Request, DispenserByte, Tick, ValidatorByte, Command}
 use Rattle.grading.specs.Replay.{Desk, freshDesk, given, run, told, replayed, replayOf}
-use Rattle.grading.specs.Promises.{calls, callsToo, refuses, refusals, AsRecorded}
+use Rattle.grading.specs.Promises.{calls, takerCalls, refuses, refusals, AsRecorded}
 use Rattle.grading.specs.declared.desk.Findings.{Findings}
 
-pub dispenser-ran : (d : Desk) (xs : List Record) → run d xs .dispenser ≡ ran (d .dispenser) (calls d xs)
+pub dispenser-ran : (d : Desk) (xs : List Record) → run d xs .dispenser ≡ ran host (d .dispenser) (calls d xs)
 unfolding run calls ran
 dispenser-ran d [] = refl
 dispenser-ran d (Request code upper lower ∷ xs) = dispenser-ran (given d (Request code upper lower)) xs
@@ -34,8 +35,8 @@ dispenser-ran d (Tick ms ∷ xs) = dispenser-ran (given d (Tick ms)) xs
 dispenser-ran d (ValidatorByte b ∷ xs) = dispenser-ran (given d (ValidatorByte b)) xs
 dispenser-ran d (Command code ∷ xs) = dispenser-ran (given d (Command code)) xs
 
-pub validator-ran : (d : Desk) (xs : List Record) (i : AllInRange xs) → run d xs .validator ≡ ranToo (d .validator) (callsToo d xs i)
-unfolding run callsToo ranToo
+pub validator-ran : (d : Desk) (xs : List Record) (i : AllInRange xs) → run d xs .validator ≡ ran takerHost (d .validator) (takerCalls d xs i)
+unfolding run takerCalls ran
 validator-ran d [] i = refl
 validator-ran d (Request code upper lower ∷ xs) i = validator-ran (given d (Request code upper lower)) xs (i .1)
 validator-ran d (DispenserByte b ∷ xs) i = validator-ran (given d (DispenserByte b)) xs (i .1)
@@ -80,7 +81,7 @@ pub good-replay : (s : List ℕ) (xs : List Record) → readRecording s ≡ reco
 unfolding replayOf
 good-replay s xs e = ap (replayed freshDesk) e
 
-fresh-parts : (freshDesk .dispenser ≡ freshSession) × (freshDesk .validator ≡ freshToo)
+fresh-parts : (freshDesk .dispenser ≡ freshSession) × (freshDesk .validator ≡ freshTaker)
 unfolding freshDesk
 fresh-parts = (refl, refl)
 
@@ -88,11 +89,11 @@ fresh-counts : (freshDesk .declined ≡ 0) × (freshDesk .records ≡ 0)
 unfolding freshDesk
 fresh-counts = (refl, refl)
 
-pub session-ran : (xs : List Record) → run freshDesk xs .dispenser ≡ ran freshSession (calls freshDesk xs)
-session-ran xs = dispenser-ran freshDesk xs ∙ ap (λ (s : Session). ran s (calls freshDesk xs)) (fresh-parts .0)
+pub session-ran : (xs : List Record) → run freshDesk xs .dispenser ≡ ran host freshSession (calls freshDesk xs)
+session-ran xs = dispenser-ran freshDesk xs ∙ ap (λ (s : Session). ran host s (calls freshDesk xs)) (fresh-parts .0)
 
-pub session-too : (xs : List Record) (i : AllInRange xs) → run freshDesk xs .validator ≡ ranToo freshToo (callsToo freshDesk xs i)
-session-too xs i = validator-ran freshDesk xs i ∙ ap (λ (s : SessionToo). ranToo s (callsToo freshDesk xs i)) (fresh-parts .1)
+pub taker-ran : (xs : List Record) (i : AllInRange xs) → run freshDesk xs .validator ≡ ran takerHost freshTaker (takerCalls freshDesk xs i)
+taker-ran xs i = validator-ran freshDesk xs i ∙ ap (λ (s : Taker). ran takerHost s (takerCalls freshDesk xs i)) (fresh-parts .1)
 
 pub as-recorded : AsRecorded
 as-recorded s xs h e =
@@ -105,7 +106,7 @@ as-recorded s xs h e =
             ∙ ap (λ (w : Session). plain (cassette (w .account) c)) (session-ran xs)
             ∙ demand3 .account (calls freshDesk xs) c;
         balance = demand3 .balance (calls freshDesk xs);
-        bills-told = λ y l. rw (g, session-too xs i) (kept-by-history .bills (callsToo freshDesk xs i) y l);
+        bills-told = λ y l. rw (g, taker-ran xs i) (kept-by-history .bills (takerCalls freshDesk xs i) y l);
         declined = ap (λ (f : Findings). f .declined) g ∙ declined-ran freshDesk xs ∙ omega (arith, fresh-counts .0);
         all = ap (λ (f : Findings). f .records) g ∙ records-ran freshDesk xs ∙ omega (arith, fresh-counts .1);
       },

@@ -1,6 +1,6 @@
 -- The contract of `replay` leaves no choice: two outcomes that it allows for the same recording coincide. Said of the contract itself, since it is
 -- one equation. Assumes nothing.
-use Rattle.numbers.proofs.Tied.{Tied, tied}
+use Rattle.refusals.proofs.Tied.{Tied, tied}
 use Rattle.grading.proofs.desk.replay.Kinds as replay
 use Rattle.grading.proofs.desk.replay.Reads as replay-reads
 

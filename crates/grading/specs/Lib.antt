@@ -1,3 +1,4 @@
 -- What the contracts of `grading` cite.
 pub mod Replay
+pub mod Scaffolding
 pub mod Promises

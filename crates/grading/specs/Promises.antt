@@ -1,28 +1,28 @@
 -- What is promised of a replay: the calls that a recording makes on each session, and what their history gives. Proved in proofs/Recorded.antt.
--- A name that ends in Too is the validator session's, the same without it the dispenser session's.
+-- The desk pays out by the dispenser session, the payer, and takes in by the validator session, the taker.
 use Prim.Native.Nat.{ℕ, _+_, _≤_, _<_}
 use mathlib.Core.Path.{_≡_}
 use mathlib.Core.Bool.{Bool, cond, _||_}
 use mathlib.Core.List.{List, [], _∷_, _++_}
 use native.Mathlib.Omega.{arith}
 use lib.ListN.{length, getD}
-use Rattle.numbers.specs.Promises.{Bytes}
+use Rattle.numbers.specs.Promises.{AllBytes}
 use Rattle.ledger.specs.Account.{Balanced, sums}
 use Rattle.dispenser_frame.specs.declared.answer.Cassette.{Cassette}
 use Rattle.dispenser_rules.specs.Session.{sessionRequest, sessionByte, sessionTick}
-use Rattle.dispenser_rules.specs.Calls.{Call, request, byte, tick}
+use Rattle.dispenser_rules.specs.Calls.{Call, request, byte, tick, history}
 use Rattle.exchange_rules.specs.Machine.{plain}
-use Rattle.dispenser_rules.specs.History.{model2000T, history, cassette}
+use Rattle.dispenser_rules.specs.Unit.{model2000T, cassette}
 use Rattle.validator_rules.specs.Limits.{types}
 use Rattle.validator_rules.specs.Bills.{bills}
-use Rattle.validator_rules.specs.Session.{sessionRequest as requestToo, sessionByte as byteToo, sessionTick as tickToo}
-use Rattle.validator_rules.specs.Calls.{Call as CallToo, request as asksToo, byte as hearsToo, tick as waitsToo}
-use Rattle.validator_rules.specs.History.{history as historyToo, counted}
+use Rattle.validator_rules.specs.Session.{sessionRequest as takerRequest, sessionByte as takerByte, sessionTick as takerTick}
+use Rattle.validator_rules.specs.Calls.{Call as TakerCall, request as takerAsks, byte as takerHears, tick as takerWaits, history as takerHistory}
+use Rattle.validator_rules.specs.History.{counted}
 use Rattle.recording.specs.Record.{InRange, AllInRange}
 use Rattle.recording.specs.Reading.{records, readRecording}
 use Rattle.recording.specs.declared.Record.{Record}
 use Rattle.recording.specs.declared.Record.the-variants.{Request, DispenserByte, Tick, ValidatorByte, Command}
-use Rattle.grading.specs.Replay.{Desk, freshDesk, declines, declinesToo, given, replayOf}
+use Rattle.grading.specs.Replay.{Desk, freshDesk, payerDeclines, takerDeclines, given, replayOf}
 
 -- ---- the calls that records make
 
@@ -42,25 +42,25 @@ calls d (x ∷ xs) = callOf d x ++ calls (given d x) xs
 pub small : (b : ℕ) → b ≤ 255 → b < 256
 small b h = omega arith
 
-abbrev pub callToo : (d : Desk) (x : Record) → InRange x → List CallToo
-callToo d (Request code upper lower) i = []
-callToo d (DispenserByte b) i = []
-callToo d (Tick ms) i = waitsToo ms (d .wide) ∷ []
-callToo d (ValidatorByte b) i = hearsToo b (small b (i .1)) (d .wide) ∷ []
-callToo d (Command code) i = asksToo code [] (d .wide) ∷ []
+abbrev pub takerCall : (d : Desk) (x : Record) → InRange x → List TakerCall
+takerCall d (Request code upper lower) i = []
+takerCall d (DispenserByte b) i = []
+takerCall d (Tick ms) i = takerWaits ms (d .room255) ∷ []
+takerCall d (ValidatorByte b) i = takerHears b (small b (i .1)) (d .room255) ∷ []
+takerCall d (Command code) i = takerAsks code [] (d .room255) ∷ []
 
-unfoldable pub callsToo : Desk → (xs : List Record) → AllInRange xs → List CallToo
-callsToo d [] i = []
-callsToo d (x ∷ xs) i = callToo d x (i .0) ++ callsToo (given d x) xs (i .1)
+unfoldable pub takerCalls : Desk → (xs : List Record) → AllInRange xs → List TakerCall
+takerCalls d [] i = []
+takerCalls d (x ∷ xs) i = takerCall d x (i .0) ++ takerCalls (given d x) xs (i .1)
 
 -- ---- the records that a session refused
 
 abbrev pub refuses : Desk → Record → Bool
-refuses d (Request code upper lower) = declines (sessionRequest (d .dispenser) code upper lower (d .room) .reply)
-refuses d (DispenserByte b) = declines (sessionByte (d .dispenser) b (d .room) .reply)
-refuses d (Tick ms) = declines (sessionTick (d .dispenser) ms (d .room) .reply) || declinesToo (tickToo (d .validator) ms (d .wide) .reply)
-refuses d (ValidatorByte b) = declinesToo (byteToo (d .validator) b (d .wide) .reply)
-refuses d (Command code) = declinesToo (requestToo (d .validator) code [] (d .wide) .reply)
+refuses d (Request code upper lower) = payerDeclines (sessionRequest (d .dispenser) code upper lower (d .room) .reply)
+refuses d (DispenserByte b) = payerDeclines (sessionByte (d .dispenser) b (d .room) .reply)
+refuses d (Tick ms) = payerDeclines (sessionTick (d .dispenser) ms (d .room) .reply) || takerDeclines (takerTick (d .validator) ms (d .room255) .reply)
+refuses d (ValidatorByte b) = takerDeclines (takerByte (d .validator) b (d .room255) .reply)
+refuses d (Command code) = takerDeclines (takerRequest (d .validator) code [] (d .room255) .reply)
 
 unfoldable pub refusals : Desk → List Record → ℕ
 refusals d [] = 0
@@ -73,11 +73,11 @@ pub record Recorded (s : List ℕ) (xs : List Record) (i : AllInRange xs) : Type
   pub account : (c : Cassette) → plain (cassette (replayOf s .account) c) ≡ sums model2000T (history (calls freshDesk xs)) c
   pub balance : (c : Cassette) → Balanced (sums model2000T (history (calls freshDesk xs)) c)
   -- the bills are those of the validator's history
-  pub bills-told : (y : ℕ) → y < types → getD (replayOf s .bills) y (bills 0) .0 ≡ counted y (historyToo (callsToo freshDesk xs i))
+  pub bills-told : (y : ℕ) → y < types → getD (replayOf s .bills) y (bills 0) .0 ≡ counted y (takerHistory (takerCalls freshDesk xs i))
   -- declined is the number of records that a session refused, and records counts them all
   pub declined : replayOf s .declined ≡ refusals freshDesk xs
   pub all : replayOf s .records ≡ length xs
 
 -- of every good recording; its records are in range, so that what they make are calls
 abbrev pub AsRecorded : Type 0
-AsRecorded = (s : List ℕ) (xs : List Record) → Bytes s → readRecording s ≡ records xs → (i : AllInRange xs) × Recorded s xs i
+AsRecorded = (s : List ℕ) (xs : List Record) → AllBytes s → readRecording s ≡ records xs → (i : AllInRange xs) × Recorded s xs i

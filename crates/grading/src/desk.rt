@@ -1,6 +1,5 @@
 // Replay of a recording through a dispenser session and a validator session, both fresh. The loop owns the parts of both sessions and the
 // rooms that they send into; what a record leaves in the account and among the bills is booked after its step.
-// The dispenser session has `line`, `store` and `room`; the validator session's are `other`, `second` and `wide`, and what ends in `too` is its.
 ghost use mathlib.Core.Path.{_≡_};
 ghost use mathlib.Core.Bool.{cond, _||_};
 ghost use mathlib.Core.List.{List};
@@ -9,11 +8,12 @@ ghost use Rattle.dispenser_rules.specs.declared.account.Account.{Account};
 ghost use Rattle.validator_rules.specs.Bills.{bookedBy};
 ghost use Rattle.validator_rules.specs.declared.bills.Bills.{Bills};
 ghost use Rattle.recording.specs.declared.Record.the-variants.{Request, DispenserByte, Tick, ValidatorByte, Command};
-ghost use Rattle.grading.specs.Replay.{declines, declinesToo, runOf, entered, joined, given, badFindings, replayOf};
+ghost use Rattle.grading.specs.Replay.{payerDeclines, takerDeclines, given, badFindings, replayOf};
+ghost use Rattle.grading.specs.Scaffolding.{runOf, entered, joined};
 use dispenser_rules::Account;
 use dispenser_rules::Asked;
 use recording::Fault;
-use recording::Found;
+use recording::NextRecord;
 use recording::Reader;
 use recording::Record;
 use recording::record_at;
@@ -34,51 +34,51 @@ pub struct Findings {
     pub ending: Ending,
 }
 
-// What changes with each record, but for stores, rooms and what is booked: the dispenser's line and its command, the other line (the validator's), and
+// What changes with each record, but for stores, rooms and what is booked: the payer's line (the dispenser's) and its command, the taker's line (the validator's), and
 // the counts.
 pub(crate) struct Run {
-    pub line: exchange_rules::Line,
+    pub payer: exchange_rules::Line,
     pub asked: Asked,
-    pub other: validator_rules::Line,
+    pub taker: validator_rules::Line,
     pub declined: u64,
     pub records: u64,
 }
 
 // The parts, field by field. Moved whole, a struct with an enum in it is copied through memory for every record.
 fn assembled(
-    line: exchange_rules::Line,
+    payer: exchange_rules::Line,
     asked: Asked,
-    other: validator_rules::Line,
+    taker: validator_rules::Line,
     declined: u64,
     records: u64,
 ) -> Run
-    ensures { λ r. ⌜ r ≡ runOf line asked other declined records ⌝ }
+    ensures { λ r. ⌜ r ≡ runOf payer asked taker declined records ⌝ }
 {
-    let phase = line.phase;
-    let stand = other.phase;
+    let phase = payer.phase;
+    let stand = taker.phase;
     Run {
-        line: exchange_rules::Line {
-            left: line.left,
-            need: line.need,
-            accepted: line.accepted,
-            handed: line.handed,
-            naks: line.naks,
-            got: line.got,
+        payer: exchange_rules::Line {
+            left: payer.left,
+            quiet: payer.quiet,
+            accepted: payer.accepted,
+            handed: payer.handed,
+            naks: payer.naks,
+            gathered: payer.gathered,
             phase,
         },
         asked: Asked {
             code: asked.code,
             upper: asked.upper,
             lower: asked.lower,
-            want: asked.want,
+            span: asked.span,
         },
-        other: validator_rules::Line {
-            left: other.left,
-            accepted: other.accepted,
-            code: other.code,
-            last: other.last,
-            got: other.got,
-            want: other.want,
+        taker: validator_rules::Line {
+            left: taker.left,
+            accepted: taker.accepted,
+            code: taker.code,
+            last: taker.last,
+            gathered: taker.gathered,
+            length: taker.length,
             phase: stand,
         },
         declined,
@@ -102,21 +102,21 @@ pub(crate) struct Moved {
 }
 
 // Did the dispenser session refuse?
-fn is_declined(reply: dispenser_rules::Reply) -> bool
-    ensures { λ r. ⌜ r ≡ declines reply ⌝ }
+fn payer_declines(reply: dispenser_rules::Reply) -> bool
+    ensures { λ r. ⌜ r ≡ payerDeclines reply ⌝ }
 {
     match reply {
-        dispenser_rules::Reply::Refused(_) => true,
+        dispenser_rules::Reply::NotDone(_) => true,
         dispenser_rules::Reply::Done { put: _, closing: _ } => false,
     }
 }
 
 // Did the validator session refuse?
-fn is_declined_too(reply: validator_rules::Reply) -> bool
-    ensures { λ r. ⌜ r ≡ declinesToo reply ⌝ }
+fn taker_declines(reply: validator_rules::Reply) -> bool
+    ensures { λ r. ⌜ r ≡ takerDeclines reply ⌝ }
 {
     match reply {
-        validator_rules::Reply::Refused(_) => true,
+        validator_rules::Reply::NotDone(_) => true,
         validator_rules::Reply::Done { put: _, closing: _ } => false,
     }
 }
@@ -146,19 +146,19 @@ fn counted(n: u64, declined: bool) -> u64
 fn requested(run: Run, code: u8, upper: u32, lower: u32, room: &mut [u8; 16]) -> Moved
     requires { ⌜ run .declined < 4_294_967_296 ⌝ }
     requires { ⌜ run .records < 4_294_967_296 ⌝ }
-    ensures { λ r. ⌜ ((a : Account) (bs : List Bills) (store second wide : List ℕ) → joined (r .run) (entered a (r .run .asked) (r .entry)) (bookedBy bs (r .bill)) store second (now (room .exit)) wide ≡ given (joined run a bs store second (now (room .entry)) wide) (Request code upper lower)) ⌝ }
+    ensures { λ r. ⌜ ((a : Account) (bs : List Bills) (store store255 room255 : List ℕ) → joined (r .run) (entered a (r .run .asked) (r .entry)) (bookedBy bs (r .bill)) store store255 (now (room .exit)) room255 ≡ given (joined run a bs store store255 (now (room .entry)) room255) (Request code upper lower)) ⌝ }
 {
-    let line = run.line;
+    let payer = run.payer;
     let asked = run.asked;
-    let other = run.other;
-    let step = dispenser::step_request(line, asked, code, upper, lower, room);
+    let taker = run.taker;
+    let step = dispenser::step_request(payer, asked, code, upper, lower, room);
     let next = step.line;
     let new = step.asked;
     let reply = step.reply;
-    let declined = counted(run.declined, is_declined(reply));
+    let declined = counted(run.declined, payer_declines(reply));
     let records = run.records + 1;
     Moved {
-        run: assembled(next, new, other, declined, records),
+        run: assembled(next, new, taker, declined, records),
         entry: Entry::Asked(reply),
         bill: validator_rules::Session::TYPES,
     }
@@ -168,18 +168,18 @@ fn requested(run: Run, code: u8, upper: u32, lower: u32, room: &mut [u8; 16]) ->
 fn dispenser_byte(run: Run, store: &mut [u8; 21], b: u8, room: &mut [u8; 16]) -> Moved
     requires { ⌜ run .declined < 4_294_967_296 ⌝ }
     requires { ⌜ run .records < 4_294_967_296 ⌝ }
-    ensures { λ r. ⌜ ((a : Account) (bs : List Bills) (second wide : List ℕ) → joined (r .run) (entered a (r .run .asked) (r .entry)) (bookedBy bs (r .bill)) (now (store .exit)) second (now (room .exit)) wide ≡ given (joined run a bs (now (store .entry)) second (now (room .entry)) wide) (DispenserByte b)) ⌝ }
+    ensures { λ r. ⌜ ((a : Account) (bs : List Bills) (store255 room255 : List ℕ) → joined (r .run) (entered a (r .run .asked) (r .entry)) (bookedBy bs (r .bill)) (now (store .exit)) store255 (now (room .exit)) room255 ≡ given (joined run a bs (now (store .entry)) store255 (now (room .entry)) room255) (DispenserByte b)) ⌝ }
 {
-    let line = run.line;
+    let payer = run.payer;
     let asked = run.asked;
-    let other = run.other;
-    let step = dispenser::step_byte(line, asked, store, b, room);
+    let taker = run.taker;
+    let step = dispenser::step_byte(payer, asked, store, b, room);
     let next = step.line;
     let reply = step.reply;
-    let declined = counted(run.declined, is_declined(reply));
+    let declined = counted(run.declined, payer_declines(reply));
     let records = run.records + 1;
     Moved {
-        run: assembled(next, asked, other, declined, records),
+        run: assembled(next, asked, taker, declined, records),
         entry: Entry::Heard(reply),
         bill: validator_rules::Session::TYPES,
     }
@@ -188,26 +188,26 @@ fn dispenser_byte(run: Run, store: &mut [u8; 21], b: u8, room: &mut [u8; 16]) ->
 // Milliseconds, for both sessions. A tick that either refuses is declined once.
 fn ticked(
     run: Run,
-    second: &mut [u8; 255],
+    store255: &mut [u8; 255],
     ms: u32,
     room: &mut [u8; 16],
-    wide: &mut [u8; 255],
+    room255: &mut [u8; 255],
 ) -> Moved
     requires { ⌜ run .declined < 4_294_967_296 ⌝ }
     requires { ⌜ run .records < 4_294_967_296 ⌝ }
-    ensures { λ r. ⌜ ((a : Account) (bs : List Bills) (store : List ℕ) → joined (r .run) (entered a (r .run .asked) (r .entry)) (bookedBy bs (r .bill)) store (now (second .exit)) (now (room .exit)) (now (wide .exit)) ≡ given (joined run a bs store (now (second .entry)) (now (room .entry)) (now (wide .entry))) (Tick ms)) ⌝ }
+    ensures { λ r. ⌜ ((a : Account) (bs : List Bills) (store : List ℕ) → joined (r .run) (entered a (r .run .asked) (r .entry)) (bookedBy bs (r .bill)) store (now (store255 .exit)) (now (room .exit)) (now (room255 .exit)) ≡ given (joined run a bs store (now (store255 .entry)) (now (room .entry)) (now (room255 .entry))) (Tick ms)) ⌝ }
 {
-    let line = run.line;
+    let payer = run.payer;
     let asked = run.asked;
-    let other = run.other;
-    let step = dispenser::step_tick(line, asked, ms, room);
+    let taker = run.taker;
+    let step = dispenser::step_tick(payer, asked, ms, room);
     let next = step.line;
     let reply = step.reply;
-    let too = validator::step_tick(other, second, ms, wide);
-    let following = too.line;
-    let said = too.reply;
-    let bill = too.bill;
-    let refused = either(is_declined(reply), is_declined_too(said));
+    let taken = validator::step_tick(taker, store255, ms, room255);
+    let following = taken.line;
+    let said = taken.reply;
+    let bill = taken.bill;
+    let refused = either(payer_declines(reply), taker_declines(said));
     let declined = counted(run.declined, refused);
     let records = run.records + 1;
     Moved {
@@ -218,43 +218,43 @@ fn ticked(
 }
 
 // A byte from the validator.
-fn validator_byte(run: Run, second: &mut [u8; 255], b: u8, wide: &mut [u8; 255]) -> Moved
+fn validator_byte(run: Run, store255: &mut [u8; 255], b: u8, room255: &mut [u8; 255]) -> Moved
     requires { ⌜ run .declined < 4_294_967_296 ⌝ }
     requires { ⌜ run .records < 4_294_967_296 ⌝ }
-    ensures { λ r. ⌜ ((a : Account) (bs : List Bills) (store room : List ℕ) → joined (r .run) (entered a (r .run .asked) (r .entry)) (bookedBy bs (r .bill)) store (now (second .exit)) room (now (wide .exit)) ≡ given (joined run a bs store (now (second .entry)) room (now (wide .entry))) (ValidatorByte b)) ⌝ }
+    ensures { λ r. ⌜ ((a : Account) (bs : List Bills) (store room : List ℕ) → joined (r .run) (entered a (r .run .asked) (r .entry)) (bookedBy bs (r .bill)) store (now (store255 .exit)) room (now (room255 .exit)) ≡ given (joined run a bs store (now (store255 .entry)) room (now (room255 .entry))) (ValidatorByte b)) ⌝ }
 {
-    let line = run.line;
+    let payer = run.payer;
     let asked = run.asked;
-    let other = run.other;
-    let step = validator::step_byte(other, second, b, wide);
+    let taker = run.taker;
+    let step = validator::step_byte(taker, store255, b, room255);
     let next = step.line;
     let reply = step.reply;
     let bill = step.bill;
-    let declined = counted(run.declined, is_declined_too(reply));
+    let declined = counted(run.declined, taker_declines(reply));
     let records = run.records + 1;
     Moved {
-        run: assembled(line, asked, next, declined, records),
+        run: assembled(payer, asked, next, declined, records),
         entry: Entry::Nothing,
         bill,
     }
 }
 
 // A request to the validator, without data.
-fn commanded(run: Run, code: u8, wide: &mut [u8; 255]) -> Moved
+fn commanded(run: Run, code: u8, room255: &mut [u8; 255]) -> Moved
     requires { ⌜ run .declined < 4_294_967_296 ⌝ }
     requires { ⌜ run .records < 4_294_967_296 ⌝ }
-    ensures { λ r. ⌜ ((a : Account) (bs : List Bills) (store second room : List ℕ) → joined (r .run) (entered a (r .run .asked) (r .entry)) (bookedBy bs (r .bill)) store second room (now (wide .exit)) ≡ given (joined run a bs store second room (now (wide .entry))) (Command code)) ⌝ }
+    ensures { λ r. ⌜ ((a : Account) (bs : List Bills) (store store255 room : List ℕ) → joined (r .run) (entered a (r .run .asked) (r .entry)) (bookedBy bs (r .bill)) store store255 room (now (room255 .exit)) ≡ given (joined run a bs store store255 room (now (room255 .entry))) (Command code)) ⌝ }
 {
-    let line = run.line;
+    let payer = run.payer;
     let asked = run.asked;
-    let other = run.other;
-    let step = validator::step_request(other, code, b"", wide);
+    let taker = run.taker;
+    let step = validator::step_request(taker, code, b"", room255);
     let next = step.line;
     let reply = step.reply;
-    let declined = counted(run.declined, is_declined_too(reply));
+    let declined = counted(run.declined, taker_declines(reply));
     let records = run.records + 1;
     Moved {
-        run: assembled(line, asked, next, declined, records),
+        run: assembled(payer, asked, next, declined, records),
         entry: Entry::Nothing,
         bill: validator_rules::Session::TYPES,
     }
@@ -265,20 +265,20 @@ fn step(
     run: Run,
     x: Record,
     store: &mut [u8; 21],
-    second: &mut [u8; 255],
+    store255: &mut [u8; 255],
     room: &mut [u8; 16],
-    wide: &mut [u8; 255],
+    room255: &mut [u8; 255],
 ) -> Moved
     requires { ⌜ run .declined < 4_294_967_296 ⌝ }
     requires { ⌜ run .records < 4_294_967_296 ⌝ }
-    ensures { λ r. ⌜ ((a : Account) (bs : List Bills) → joined (r .run) (entered a (r .run .asked) (r .entry)) (bookedBy bs (r .bill)) (now (store .exit)) (now (second .exit)) (now (room .exit)) (now (wide .exit)) ≡ given (joined run a bs (now (store .entry)) (now (second .entry)) (now (room .entry)) (now (wide .entry))) x) ⌝ }
+    ensures { λ r. ⌜ ((a : Account) (bs : List Bills) → joined (r .run) (entered a (r .run .asked) (r .entry)) (bookedBy bs (r .bill)) (now (store .exit)) (now (store255 .exit)) (now (room .exit)) (now (room255 .exit)) ≡ given (joined run a bs (now (store .entry)) (now (store255 .entry)) (now (room .entry)) (now (room255 .entry))) x) ⌝ }
 {
     match x {
         Record::Request { code, upper, lower } => requested(run, code, upper, lower, room),
         Record::DispenserByte(b) => dispenser_byte(run, store, b, room),
-        Record::Tick(ms) => ticked(run, second, ms, room, wide),
-        Record::ValidatorByte(b) => validator_byte(run, second, b, wide),
-        Record::Command(code) => commanded(run, code, wide),
+        Record::Tick(ms) => ticked(run, store255, ms, room, room255),
+        Record::ValidatorByte(b) => validator_byte(run, store255, b, room255),
+        Record::Command(code) => commanded(run, code, room255),
     }
 }
 
@@ -319,33 +319,33 @@ pub fn replay(recording: &[u8]) -> Findings
     }
     let dispenser = dispenser_rules::Session::fresh();
     let validator = validator_rules::Session::fresh();
-    let line = dispenser.line;
+    let payer = dispenser.line;
     let asked = dispenser.asked;
-    let other = validator.line;
+    let taker = validator.line;
     let mut run = Run {
-        line,
+        payer,
         asked,
-        other,
+        taker,
         declined: 0,
         records: 0,
     };
     let mut account = dispenser.account;
     let mut bills = validator.bills;
     let mut store = dispenser.store;
-    let mut second = validator.store;
+    let mut store255 = validator.store;
     let mut room = [0u8; 16];
-    let mut wide = [0u8; 255];
+    let mut room255 = [0u8; 255];
     let mut i: usize = 0;
     while i < recording.len() {
         let found = record_at(recording, i);
         match found {
-            Found::Bad(why) => {
+            NextRecord::Bad(why) => {
                 let at = i as u32;
                 return Findings::bad(why, at);
             }
-            Found::Whole(x, size) => {
+            NextRecord::Whole(x, size) => {
                 i += size;
-                let moved = step(run, x, &mut store, &mut second, &mut room, &mut wide);
+                let moved = step(run, x, &mut store, &mut store255, &mut room, &mut room255);
                 let following = moved.run;
                 run = following;
                 let entry = moved.entry;

@@ -1,13 +1,13 @@
 -- From what is laid to what is said: records in range are read again, and bytes that are no record are refused as they should. Assumes nothing.
-use Prim.Native.Nat.{ℕ, suc, _+_, _≤_, _<_}
-use mathlib.Core.Path.{_≡_, refl, sym, ap, _∙_, subst}
+use Prim.Native.Nat.{ℕ, zero, suc, _+_, _≤_, _<_}
+use mathlib.Core.Path.{_≡_, refl, sym, ap, ap₂, _∙_, subst}
 use mathlib.Core.List.{List, [], _∷_, _++_, append-assoc, append-nil}
 use native.Mathlib.Omega.{arith}
-use lib.ListN.{length, length-append}
+use lib.ListN.{length, getD, length-append}
 use lib.Seq.{drop-append-seam}
-use Rattle.numbers.specs.Seven.{groups}
+use Rattle.numbers.specs.Seven.{numberEnd, groups}
 use Rattle.numbers.proofs.Groups.{group-trips}
-use Rattle.recording.specs.Record.{numberEnd, kindOf, numbersOf, howMany, takes, AllBelow, laidNumbers, recordBytes, laid, AllInRange}
+use Rattle.recording.specs.Record.{kindOf, numbersOf, isKind, howMany, takes, AllBelow, laidNumbers, recordBytes, laid, AllInRange}
 use Rattle.recording.specs.Reading.{Reading, records, bad, freshReader, also, went, readingFrom}
 use Rattle.recording.specs.Promises.{Faulty, kind, value, number, cut, ReadsBack}
 use Rattle.recording.specs.declared.Fault.{Fault}
@@ -15,11 +15,10 @@ use Rattle.recording.specs.declared.Fault.the-variants.{Unknown}
 use Rattle.recording.specs.declared.Record.{Record}
 use Rattle.recording.specs.declared.Record.the-variants.{Request, DispenserByte, Tick, ValidatorByte, Command}
 use Rattle.recording.specs.declared.Reader.{Reader}
-use Rattle.recording.specs.declared.Took.{Took}
-use Rattle.recording.specs.declared.Heard.{Heard}
+use Rattle.recording.specs.declared.Step.{Step}
 use Rattle.recording.proofs.Folds.{reading-cons}
 use Rattle.recording.proofs.Numbers.{Stage, stage-kind}
-use Rattle.recording.proofs.Trips.{laid-more, laid-none, below-snoc, how-many, KindSays, listed, unlisted, kind-says, After, goes, ends, fails, comes-number, comes-bad, comes-cut}
+use Rattle.recording.proofs.Trips.{laid-more, laid-none, below-snoc, how-many, kind-turn, kind-other, After, goes, ends, fails, after-turn, comes-number, comes-bad, comes-cut}
 
 -- ---- numbers that are laid
 
@@ -29,84 +28,50 @@ module _ {at k : ℕ} {ns : List ℕ} {r : Reader} (s : Stage at k ns r) (a : r 
       subst (λ (l : List ℕ). After at k (ns ++ (n ∷ [])) (p + length (groups n)) l (readingFrom r p (groups n ++ t))) (drop-append-seam (groups n) t)
       (comes-number s a w p (groups n ++ t) n (length (groups n)) (group-trips .back n t h) b)
 
--- as many numbers as the kind has: there is none more
-no-more : (k : ℕ) (ns ms : List ℕ) (n : ℕ) → length (ns ++ (n ∷ [])) ≡ howMany k → length (ns ++ (n ∷ ms)) ≤ howMany k → ms ≡ []
-no-more k ns [] n e l = refl
-no-more k ns (m ∷ ms) n e l = absurd (omega (arith, simp length-append at e, simp length-append at l))
-
-backs : (ms : List ℕ) {at k : ℕ} {ns : List ℕ} {r : Reader} → Stage at k ns r → r .acc ≡ 0 → r .weight ≡ 1 → AllBelow ns → AllBelow ms
-    → length (ns ++ ms) ≤ howMany k → (p : ℕ) (t : List ℕ)
-    → After at k (ns ++ ms) (p + length (laidNumbers ms)) t (readingFrom r p (laidNumbers ms ++ t))
-backs [] {at} {k} {ns} {r} s a w b c l p t =
-    rw (append-nil, laid-none) (goes r s a w (ap (λ (q : ℕ). readingFrom r q t) (omega arith)))
-backs (n ∷ ms) {at} {k} {ns} {r} s a w b c l p t =
-    subst (λ (q : ℕ). After at k (ns ++ (n ∷ ms)) q t (readingFrom r p (laidNumbers (n ∷ ms) ++ t))) (omega (arith, simp length-append at (ap length (laid-more n ms))))
-    (subst (λ (y : List ℕ). After at k (ns ++ (n ∷ ms)) (p + length (groups n) + length (laidNumbers ms)) t (readingFrom r p y))
-    (sym (append-assoc (groups n) (laidNumbers ms) t) ∙ ap (λ (y : List ℕ). y ++ t) (sym (laid-more n ms)))
-    (by (passes s a w b p n (laidNumbers ms ++ t) (c .0))
-    (λ r′ s′ a′ w′. backs ms s′ a′ w′ (below-snoc ns n b (c .0)) (c .1) (rw append-assoc l) (p + length (groups n)) t)))
-  where
-    -- no number is left
-    last : {o : Reading} → ms ≡ [] → After at k (ns ++ (n ∷ [])) (p + length (groups n)) (laidNumbers ms ++ t) o
-        → After at k (ns ++ (n ∷ ms)) (p + length (groups n) + length (laidNumbers ms)) t o
-    last {o} e x =
-        subst (λ (y : List ℕ). After at k (ns ++ (n ∷ y)) (p + length (groups n) + length (laidNumbers y)) t o) (sym e)
-        (rw laid-none
-        (subst (λ (q : ℕ). After at k (ns ++ (n ∷ [])) q t o) (omega arith)
-        (subst (λ (y : List ℕ). After at k (ns ++ (n ∷ [])) (p + length (groups n)) (y ++ t) o) (ap laidNumbers e ∙ laid-none) x)))
-
-    by : {o : Reading} → After at k (ns ++ (n ∷ [])) (p + length (groups n)) (laidNumbers ms ++ t) o
-        → ((r′ : Reader) → Stage at k (ns ++ (n ∷ [])) r′ → r′ .acc ≡ 0 → r′ .weight ≡ 1
-        → After at k ((ns ++ (n ∷ [])) ++ ms) (p + length (groups n) + length (laidNumbers ms)) t (readingFrom r′ (p + length (groups n)) (laidNumbers ms ++ t)))
-        → After at k (ns ++ (n ∷ ms)) (p + length (groups n) + length (laidNumbers ms)) t o
-    by (goes r′ s′ a′ w′ e) later =
-        subst (After at k (ns ++ (n ∷ ms)) (p + length (groups n) + length (laidNumbers ms)) t) (sym e)
-        (subst (λ (y : List ℕ). After at k y (p + length (groups n) + length (laidNumbers ms)) t (readingFrom r′ (p + length (groups n)) (laidNumbers ms ++ t))) (append-assoc ns (n ∷ []) ms) (later r′ s′ a′ w′))
-    by (ends x kx nx tk e) later =
-        last (no-more k ns ms n (sym (ap length nx) ∙ how-many x ∙ ap howMany kx) l) (ends x kx nx tk e)
-    by (fails q nt e) later = last (no-more k ns ms n q l) (fails q nt e)
+-- numbers ms that are laid behind those read
+laid-behind : (ms : List ℕ) {at k : ℕ} {ns : List ℕ} {o : Reading} → AllBelow ns → AllBelow ms → length (ns ++ ms) ≤ howMany k → (p : ℕ) (t : List ℕ)
+    → After at k ns p (laidNumbers ms ++ t) o → After at k (ns ++ ms) (p + length (laidNumbers ms)) t o
+laid-behind [] {at} {k} {ns} {o} b c l p t x =
+    rw (append-nil, laid-none)
+    (subst (λ (q : ℕ). After at k ns q t o) (omega arith) (subst (λ (y : List ℕ). After at k ns p (y ++ t) o) laid-none x))
+laid-behind (n ∷ ms) {at} {k} {ns} {o} b c l p t (goes r s a w e) =
+    subst (λ (q : ℕ). After at k (ns ++ (n ∷ ms)) q t o) (omega (arith, simp length-append at (ap length (laid-more n ms))))
+    (subst (λ (y : List ℕ). After at k y (p + length (groups n) + length (laidNumbers ms)) t o) (append-assoc ns (n ∷ []) ms)
+    (laid-behind ms (below-snoc ns n b (c .0)) (c .1) (rw append-assoc l) (p + length (groups n)) t
+    (subst (After at k (ns ++ (n ∷ [])) (p + length (groups n)) (laidNumbers ms ++ t))
+    (sym (e ∙ ap (readingFrom r p) (ap (λ (y : List ℕ). y ++ t) (laid-more n ms) ∙ append-assoc (groups n) (laidNumbers ms) t)))
+    (passes s a w b p n (laidNumbers ms ++ t) (c .0)))))
+laid-behind (n ∷ ms) b c l p t (ends x kx nx tk e) = absurd (omega (arith, simp length-append at l, ap length nx, how-many x, ap howMany kx))
+laid-behind (n ∷ ms) b c l p t (fails f nt e) = absurd (omega (arith, simp length-append at l, f))
 
 -- ---- a record
 
+-- by its kind and its numbers
+made : ℕ → List ℕ → Record
+made zero ns = Request (getD ns 0 0) (getD ns 1 0) (getD ns 2 0)
+made (suc zero) ns = DispenserByte (getD ns 0 0)
+made (suc (suc zero)) ns = Tick (getD ns 0 0)
+made (suc (suc (suc zero))) ns = ValidatorByte (getD ns 0 0)
+made (suc (suc (suc (suc k)))) ns = Command (getD ns 0 0)
+
+made-again : (x : Record) → made (kindOf x) (numbersOf x) ≡ x
+unfolding made
+made-again (Request c u l) = refl
+made-again (DispenserByte b) = refl
+made-again (Tick ms) = refl
+made-again (ValidatorByte b) = refl
+made-again (Command c) = refl
+
 same-record : (x y : Record) → kindOf x ≡ kindOf y → numbersOf x ≡ numbersOf y → x ≡ y
-same-record (Request a b c) (Request d e f) k n = cc
-same-record (DispenserByte a) (DispenserByte b) k n = cc
-same-record (Tick a) (Tick b) k n = cc
-same-record (ValidatorByte a) (ValidatorByte b) k n = cc
-same-record (Command a) (Command b) k n = cc
-same-record (Request a b c) (DispenserByte e) k n = absurd (omega arith)
-same-record (Request a b c) (Tick e) k n = absurd (omega arith)
-same-record (Request a b c) (ValidatorByte e) k n = absurd (omega arith)
-same-record (Request a b c) (Command e) k n = absurd (omega arith)
-same-record (DispenserByte a) (Request d e f) k n = absurd (omega arith)
-same-record (DispenserByte a) (Tick e) k n = absurd (omega arith)
-same-record (DispenserByte a) (ValidatorByte e) k n = absurd (omega arith)
-same-record (DispenserByte a) (Command e) k n = absurd (omega arith)
-same-record (Tick a) (Request d e f) k n = absurd (omega arith)
-same-record (Tick a) (DispenserByte e) k n = absurd (omega arith)
-same-record (Tick a) (ValidatorByte e) k n = absurd (omega arith)
-same-record (Tick a) (Command e) k n = absurd (omega arith)
-same-record (ValidatorByte a) (Request d e f) k n = absurd (omega arith)
-same-record (ValidatorByte a) (DispenserByte e) k n = absurd (omega arith)
-same-record (ValidatorByte a) (Tick e) k n = absurd (omega arith)
-same-record (ValidatorByte a) (Command e) k n = absurd (omega arith)
-same-record (Command a) (Request d e f) k n = absurd (omega arith)
-same-record (Command a) (DispenserByte e) k n = absurd (omega arith)
-same-record (Command a) (Tick e) k n = absurd (omega arith)
-same-record (Command a) (ValidatorByte e) k n = absurd (omega arith)
+same-record x y k n = sym (made-again x) ∙ ap₂ made k n ∙ made-again y
 
 -- a kind byte, and then numbers
-kind-numbers : (at k : ℕ) (ns t : List ℕ) → k ≤ 4 → length ns ≤ howMany k → AllBelow ns
+kind-numbers : (at k : ℕ) (ns t : List ℕ) → isKind k .holds → length ns ≤ howMany k → AllBelow ns
     → After at k ns (suc at + length (laidNumbers ns)) t (readingFrom freshReader at (k ∷ laidNumbers ns ++ t))
 kind-numbers at k ns t h l b =
-    rw (reading-cons freshReader at k (laidNumbers ns ++ t)) (by (kind-says at k))
-  where
-    by : {x : Took} → KindSays at k x
-        → After at k ns (suc at + length (laidNumbers ns)) t (went (x .heard) (readingFrom (x .reader) (suc at) (laidNumbers ns ++ t)))
-    by (listed r s a w) = backs ns s a w tt b l (suc at) t
-    by (unlisted x more e) = absurd (omega arith)
+    laid-behind ns tt b l (suc at) t (after-turn (suc at) (laidNumbers ns ++ t) _ (kind-turn at k h) (reading-cons freshReader at k (laidNumbers ns ++ t)))
 
-few : (x : Record) → kindOf x ≤ 4
+few : (x : Record) → isKind (kindOf x) .holds
 few (Request c u l) = omega arith
 few (DispenserByte b) = omega arith
 few (Tick ms) = omega arith
@@ -147,11 +112,8 @@ faulty-number y l (ends x kx nx tk e) f = absurd (omega (arith, ap length nx, ho
 faulty-number y l (fails m nt e) f = absurd (omega arith)
 
 pub faulty-back : {why : Fault} {s : List ℕ} → Faulty why s → (at : ℕ) → readingFrom freshReader at s ≡ bad why at
-faulty-back (kind k t h) at = reading-cons freshReader at k t ∙ by (kind-says at k)
-  where
-    by : {x : Took} → KindSays at k x → went (x .heard) (readingFrom (x .reader) (suc at) t) ≡ bad Unknown at
-    by (listed r s a w) = absurd (omega (arith, stage-kind s .0))
-    by (unlisted x more e) = ap (λ (y : Heard). went y (readingFrom (x .reader) (suc at) t)) e
+faulty-back (kind k t h) at =
+    reading-cons freshReader at k t ∙ ap (λ (x : Step). went (x .outcome) (readingFrom (x .reader) (suc at) t)) (kind-other at k h)
 faulty-back (value k ns t h l b n) at = faulty-value l n (kind-numbers at k ns t h (omega arith) b)
 faulty-back (number k ns t h l b e) at =
     faulty-number _ l (kind-numbers at k ns t h (omega arith) b) (λ r s a w. comes-bad s a w _ t e)

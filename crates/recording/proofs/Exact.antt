@@ -6,22 +6,21 @@ use native.Mathlib.Nat.{le-refl}
 use native.Mathlib.Omega.{arith}
 use lib.ListN.{length, take, drop, length-append, length-drop, take-append-drop}
 use lib.Seq.{length-take-le, drop-drop}
-use Rattle.numbers.specs.Rules.{under, atMost}
-use Rattle.numbers.specs.Promises.{Bytes}
-use Rattle.numbers.proofs.Rules.{by-cases}
-use Rattle.recording.specs.Record.{faultNumber, mostBytes, numbersOf, howMany, laidNumbers, recordBytes, InRange, laid, AllInRange}
+use Rattle.refusals.specs.Rules.{under, atMost}
+use Rattle.numbers.specs.Promises.{AllBytes}
+use Rattle.refusals.proofs.Rules.{by-cases}
+use Rattle.recording.specs.Record.{faultNumber, mostBytes, numbersOf, isKind, howMany, laidNumbers, recordBytes, InRange, laid, AllInRange}
 use Rattle.recording.specs.Reading.{Reading, records, bad, freshReader, ended, also, went, readingFrom}
 use Rattle.recording.specs.Taking.{foundAt}
 use Rattle.recording.specs.Promises.{Faulty, kind, value, number, cut, Breaks, TakenAtOnce, ExactlyWhen}
 use Rattle.recording.specs.declared.Fault.{Fault}
 use Rattle.recording.specs.declared.Fault.the-variants.{Long}
 use Rattle.recording.specs.declared.Record.{Record}
-use Rattle.recording.specs.declared.Took.{Took}
-use Rattle.recording.specs.declared.taking.Found.{Found}
-use Rattle.recording.specs.declared.taking.Found.the-variants.{Whole, Bad}
-use Rattle.recording.specs.declared.Heard.{Heard}
+use Rattle.recording.specs.declared.Step.{Step}
+use Rattle.recording.specs.declared.taking.NextRecord.{NextRecord}
+use Rattle.recording.specs.declared.taking.NextRecord.the-variants.{Whole, Bad}
 use Rattle.recording.proofs.Folds.{reading-nil, reading-cons, reading-short, reading-long}
-use Rattle.recording.proofs.Trips.{laid-none, bytes-drop, KindSays, listed, unlisted, kind-says, Rest, whole, fault, rests}
+use Rattle.recording.proofs.Trips.{laid-none, bytes-drop, kind-turn, kind-other, after-turn, Rest, whole, fault, rests}
 use Rattle.recording.proofs.Starts.{whole-read, bad-says}
 use Rattle.recording.proofs.Back.{length-record, bytes-record, reads-back, alsos, alsos-bad, alsos-none, records-back, faulty-back}
 
@@ -64,7 +63,7 @@ later at x t (bad why q) i h =
       ),
     )
 
-bytes-behind : (l t : List ℕ) → Bytes (l ++ t) → Bytes t
+bytes-behind : (l t : List ℕ) → AllBytes (l ++ t) → AllBytes t
 bytes-behind [] t h = h
 bytes-behind (b ∷ l) t h = bytes-behind l t (λ i. h (suc i))
 
@@ -83,36 +82,35 @@ record-said at k u (whole x ms rest kx nx i f g) go =
 record-said at k u (fault why f g) go = subst (Said at (k ∷ u)) (sym g) (first at (subst (λ (l : List ℕ). Faulty why (k ∷ l)) (ap (λ (y : List ℕ). y ++ u) laid-none) f))
 
 -- a record, and then what is said of any shorter bytes
-one-said : (s : List ℕ) → Bytes s → ((t : List ℕ) → length t < length s → Bytes t → (q : ℕ) → Said q t (readingFrom freshReader q t))
+one-said : (s : List ℕ) → AllBytes s → ((t : List ℕ) → length t < length s → AllBytes t → (q : ℕ) → Said q t (readingFrom freshReader q t))
     → (at : ℕ) → Said at s (readingFrom freshReader at s)
 unfolding ended
 one-said [] h go at = rw reading-nil (tt, sym none-laid)
 one-said (k ∷ u) h go at =
     rw (reading-cons freshReader at k u)
-    (by (λ rest x e q. go rest (omega (arith, simp length-append at (ap length e))) (bytes-behind x rest (subst Bytes e (λ i. h (suc i)))) q) (kind-says at k))
-  where
-    by : ((rest x : List ℕ) → u ≡ x ++ rest → (q : ℕ) → Said q rest (readingFrom freshReader q rest))
-        → {x : Took} → KindSays at k x → Said at (k ∷ u) (went (x .heard) (readingFrom (x .reader) (suc at) u))
-    by go (listed r s a w) = record-said at k u (rests (howMany k) (omega arith) s a w tt (suc at) u (λ i. h (suc i))) go
-    by go (unlisted x more e) =
-        subst (Said at (k ∷ u)) (sym (ap (λ (y : Heard). went y (readingFrom (x .reader) (suc at) u)) e)) (first at (kind k u more))
+    (by-cases (isKind k)
+    (λ i.
+    record-said at k u (rests (howMany k) (omega arith) i tt (λ j. h (suc j)) (after-turn (suc at) u _ (kind-turn at k i) refl))
+    (λ rest x e q. go rest (omega (arith, simp length-append at (ap length e))) (bytes-behind x rest (subst AllBytes e (λ j. h (suc j)))) q))
+    (λ n.
+    subst (Said at (k ∷ u)) (sym (ap (λ (t : Step). went (t .outcome) (readingFrom (t .reader) (suc at) u)) (kind-other at k n))) (first at (kind k u n))))
 
-said : (f : ℕ) (s : List ℕ) → length s ≤ f → Bytes s → (at : ℕ) → Said at s (readingFrom freshReader at s)
+said : (f : ℕ) (s : List ℕ) → length s ≤ f → AllBytes s → (at : ℕ) → Said at s (readingFrom freshReader at s)
 said zero s l h at = one-said s h (λ t m. absurd (omega arith)) at
 said (suc f) s l h at = one-said s h (λ t m. said f t (omega arith)) at
 
 -- ---- a record taken at once
 
-bytes-before : (l t : List ℕ) → Bytes (l ++ t) → Bytes l
+bytes-before : (l t : List ℕ) → AllBytes (l ++ t) → AllBytes l
 bytes-before [] t h i = omega arith
 bytes-before (b ∷ l) t h zero = h zero
 bytes-before (b ∷ l) t h (suc i) = bytes-before l t (λ j. h (suc j)) i
 
-bytes-take : (i : ℕ) (u : List ℕ) → Bytes u → Bytes (take i u)
-bytes-take i u h = bytes-before (take i u) (drop i u) (subst Bytes (sym (take-append-drop i u)) h)
+bytes-take : (i : ℕ) (u : List ℕ) → AllBytes u → AllBytes (take i u)
+bytes-take i u h = bytes-before (take i u) (drop i u) (subst AllBytes (sym (take-append-drop i u)) h)
 
 -- bytes that are one record and nothing else
-alone-said : (at : ℕ) (u : List ℕ) (x : Record) → Bytes u → readingFrom freshReader at u ≡ records (x ∷ []) → InRange x × (u ≡ recordBytes x)
+alone-said : (at : ℕ) (u : List ℕ) (x : Record) → AllBytes u → readingFrom freshReader at u ≡ records (x ∷ []) → InRange x × (u ≡ recordBytes x)
 alone-said at u x h e =
     let r = subst (Said at u) e (said (length u) u (le-refl (length u)) h at) in
     (r .0 .0, r .1 ∙ more-laid x [] ∙ ap (λ (l : List ℕ). recordBytes x ++ l) none-laid ∙ append-nil (recordBytes x))
@@ -122,7 +120,7 @@ empty [] e = refl
 empty (b ∷ l) e = absurd (omega arith)
 
 -- a fault at the first byte
-first-said : (at : ℕ) (u : List ℕ) (why : Fault) → Bytes u → readingFrom freshReader at u ≡ bad why at → Faulty why u
+first-said : (at : ℕ) (u : List ℕ) (why : Fault) → AllBytes u → readingFrom freshReader at u ≡ bad why at → Faulty why u
 first-said at u why h e =
     let r = subst (Said at u) e (said (length u) u (le-refl (length u)) h at) in
     by (r .1 .1) (omega (arith, r .1 .0))
@@ -160,7 +158,7 @@ first-only at x y w i j e =
     by (bad why p) q = absurd (apart q)
 
 -- a record that stands there, taken at once
-module _ (s : List ℕ) (at : ℕ) (h : Bytes s) (l : at < length s) where
+module _ (s : List ℕ) (at : ℕ) (h : AllBytes s) (l : at < length s) where
   whole-to : (x : Record) (n : ℕ) → foundAt s at ≡ Whole x n → InRange x × (n ≡ length (recordBytes x)) × (drop at s ≡ recordBytes x ++ drop (at + n) s)
   unfolding ended
   whole-to x n e =
@@ -181,7 +179,7 @@ module _ (s : List ℕ) (at : ℕ) (h : Bytes s) (l : at < length s) where
   not-both : (x : Record) (t : List ℕ) (why : Fault) → InRange x → drop at s ≡ recordBytes x ++ t → Faulty why (drop at s) → ⊥
   not-both x t why i e f =
       let a = at + length (recordBytes x) in
-      let b = bytes-behind (recordBytes x) t (subst Bytes e (bytes-drop at s h)) in
+      let b = bytes-behind (recordBytes x) t (subst AllBytes e (bytes-drop at s h)) in
       no-earlier x a at t (readingFrom freshReader a t) (said (length t) t (le-refl (length t)) b a)
       (sym (reads-back x i at t) ∙ ap (readingFrom freshReader at) (sym e) ∙ faulty-back f at) (omega (arith, length-record x))
 
@@ -193,7 +191,7 @@ module _ (s : List ℕ) (at : ℕ) (h : Bytes s) (l : at < length s) where
       (λ l. sym (first-only at y x _ j i (begins (recordBytes y) (recordBytes x) u t (sym f ∙ e) (omega arith))))
 
   whole-from : (x : Record) (n : ℕ) → InRange x → n ≡ length (recordBytes x) → drop at s ≡ recordBytes x ++ drop (at + n) s
-      → (f : Found) → foundAt s at ≡ f → f ≡ Whole x n
+      → (f : NextRecord) → foundAt s at ≡ f → f ≡ Whole x n
   whole-from x n i k e (Whole y m) q =
       let r = whole-to y m q in
       let same : y ≡ x = one-only y x _ _ (r .0) i (r .2) e in
@@ -201,7 +199,7 @@ module _ (s : List ℕ) (at : ℕ) (h : Bytes s) (l : at < length s) where
       ap₂ Whole same size
   whole-from x n i k e (Bad why) q = absurd (not-both x _ why i e (faulty-to why q))
 
-  faulty-from : (why : Fault) → Faulty why (drop at s) → (f : Found) → foundAt s at ≡ f → f ≡ Bad why
+  faulty-from : (why : Fault) → Faulty why (drop at s) → (f : NextRecord) → foundAt s at ≡ f → f ≡ Bad why
   faulty-from why f (Whole y m) q = let r = whole-to y m q in absurd (not-both y _ why (r .0) (r .2) f)
   faulty-from why f (Bad w) q =
       let e : bad w at ≡ bad why at = sym (faulty-back (faulty-to w q) at) ∙ faulty-back f at in
@@ -217,7 +215,7 @@ taken-at-once =
 
 -- ---- both ways
 
-good-to : (s : List ℕ) (xs : List Record) → Bytes s → readingFrom freshReader 0 s ≡ records xs → AllInRange xs × (s ≡ laid xs)
+good-to : (s : List ℕ) (xs : List Record) → AllBytes s → readingFrom freshReader 0 s ≡ records xs → AllInRange xs × (s ≡ laid xs)
 good-to s xs h e = subst (Said 0 s) e (said (length s) s (le-refl (length s)) h 0)
 
 good-from : (s : List ℕ) (xs : List Record) → AllInRange xs → s ≡ laid xs → readingFrom freshReader 0 s ≡ records xs
@@ -228,7 +226,7 @@ good-from s xs i e =
     ∙ ap (alsos xs) (reading-nil freshReader (0 + length (laid xs)))
     ∙ alsos-none xs
 
-broken-to : (s : List ℕ) (why : Fault) (at : ℕ) → Bytes s → readingFrom freshReader 0 s ≡ bad why at → Breaks why at s
+broken-to : (s : List ℕ) (why : Fault) (at : ℕ) → AllBytes s → readingFrom freshReader 0 s ≡ bad why at → Breaks why at s
 broken-to s why at h e =
     let b = subst (Said 0 s) e (said (length s) s (le-refl (length s)) h 0) in
     subst (λ (q : ℕ). Breaks why q s) (omega (arith, b .1 .0)) (b .1 .1)

@@ -14,19 +14,19 @@ use Rattle.recording.specs.declared.Fault.{Fault}
 use Rattle.recording.specs.declared.Fault.the-variants.{Long}
 use Rattle.recording.specs.declared.Record.{Record}
 use Rattle.recording.specs.declared.Reader.{Reader}
-use Rattle.recording.specs.declared.Heard.{Heard}
-use Rattle.recording.specs.declared.Heard.the-variants.{More, Whole, Bad}
-use Rattle.recording.specs.declared.Took.{Took}
+use Rattle.recording.specs.declared.Outcome.{Outcome}
+use Rattle.recording.specs.declared.Outcome.the-variants.{More, Whole, Bad}
+use Rattle.recording.specs.declared.Step.{Step}
 use Rattle.recording.specs.declared.Verdict.{Verdict}
 use Rattle.recording.specs.declared.Verdict.the-variants.{Good, Bad as NotGood}
-use Rattle.recording.proofs.Heard.{the-type}
+use Rattle.recording.proofs.Outcome.{the-type}
 
 pub reading-nil : (r : Reader) (at : ℕ) → readingFrom r at [] ≡ closing (ended r)
 unfolding readingFrom
 reading-nil r at = refl
 
 pub reading-cons : (r : Reader) (at b : ℕ) (s : List ℕ)
-    → readingFrom r at (b ∷ s) ≡ went (readByte r at b .heard) (readingFrom (readByte r at b .reader) (suc at) s)
+    → readingFrom r at (b ∷ s) ≡ went (readByte r at b .outcome) (readingFrom (readByte r at b .reader) (suc at) s)
 unfolding readingFrom
 reading-cons r at b s = refl
 
@@ -35,7 +35,7 @@ reading-end r at s i h = ap (readingFrom r at) (drop-of-length-le s h) ∙ readi
 
 pub reading-at : (r : Reader) (s : List ℕ) (i : ℕ) → i < length s
     → readingFrom r i (drop i s)
-    ≡ went (readByte r i (getD s i 0) .heard) (readingFrom (readByte r i (getD s i 0) .reader) (i + 1) (drop (i + 1) s))
+    ≡ went (readByte r i (getD s i 0) .outcome) (readingFrom (readByte r i (getD s i 0) .reader) (i + 1) (drop (i + 1) s))
 reading-at r s i h = rw (drop-cons s i 0 h, add-one) (reading-cons r i (getD s i 0) (drop (suc i) s))
 
 -- a recording that is not too long
@@ -54,7 +54,7 @@ verdict-also x (records xs) = refl
 verdict-also x (bad why at) = refl
 
 -- a byte that shows no fault leaves it to the rest
-pub verdict-went : (h : Heard) → OneOf (0 ∷ 1 ∷ []) (tagOf the-type h) → (rest : Reading) → verdictOf (went h rest) ≡ verdictOf rest
+pub verdict-went : (h : Outcome) → OneOf (0 ∷ 1 ∷ []) (tagOf the-type h) → (rest : Reading) → verdictOf (went h rest) ≡ verdictOf rest
 verdict-went More k rest = refl
 verdict-went (Whole x) k rest = verdict-also x rest
 verdict-went (Bad why at) k rest = absurd (miss (0 ∷ 1 ∷ []) 2 tt k)
@@ -65,13 +65,13 @@ verdict-closing (NotGood why at) = refl
 
 -- ---- the loop over a recording: t is what the byte at i left
 
-module _ (r : Reader) (s : List ℕ) (i : ℕ) (h : i < length s) (t : Took) (e : t ≡ readByte r i (getD s i 0)) where
-  pub reading-one : readingFrom r i (drop i s) ≡ went (t .heard) (readingFrom (t .reader) (i + 1) (drop (i + 1) s))
-  reading-one = reading-at r s i h ∙ ap (λ (x : Took). went (x .heard) (readingFrom (x .reader) (i + 1) (drop (i + 1) s))) (sym e)
+module _ (r : Reader) (s : List ℕ) (i : ℕ) (h : i < length s) (t : Step) (e : t ≡ readByte r i (getD s i 0)) where
+  pub reading-one : readingFrom r i (drop i s) ≡ went (t .outcome) (readingFrom (t .reader) (i + 1) (drop (i + 1) s))
+  reading-one = reading-at r s i h ∙ ap (λ (x : Step). went (x .outcome) (readingFrom (x .reader) (i + 1) (drop (i + 1) s))) (sym e)
 
-  pub reading-bad : {why : Fault} {at : ℕ} → t .heard ≡ Bad why at → readingFrom r i (drop i s) ≡ bad why at
-  reading-bad f = reading-one ∙ ap (λ (x : Heard). went x (readingFrom (t .reader) (i + 1) (drop (i + 1) s))) f
+  pub reading-bad : {why : Fault} {at : ℕ} → t .outcome ≡ Bad why at → readingFrom r i (drop i s) ≡ bad why at
+  reading-bad f = reading-one ∙ ap (λ (x : Outcome). went x (readingFrom (t .reader) (i + 1) (drop (i + 1) s))) f
 
-  pub reading-on : OneOf (0 ∷ 1 ∷ []) (tagOf the-type (t .heard))
+  pub reading-on : OneOf (0 ∷ 1 ∷ []) (tagOf the-type (t .outcome))
       → verdictOf (readingFrom r i (drop i s)) ≡ verdictOf (readingFrom (t .reader) (i + 1) (drop (i + 1) s))
-  reading-on k = ap verdictOf reading-one ∙ verdict-went (t .heard) k _
+  reading-on k = ap verdictOf reading-one ∙ verdict-went (t .outcome) k _

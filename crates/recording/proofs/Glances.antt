@@ -7,24 +7,24 @@ use native.Mathlib.Omega.{arith}
 use lib.ListN.{length, drop, getD, drop-of-length-le}
 use lib.Seq.{drop-cons}
 use types.Run.{hit}
-use borrow.Author.Tests.{le-ltb}
 use Rattle.numbers.specs.Seven.{nextGroup}
 use Rattle.numbers.specs.declared.Group.{Group}
 use Rattle.numbers.specs.declared.Group.the-variants.{More as OneMore, Last}
 use Rattle.numbers.proofs.Groups.{group-more, group-last, next-begun}
-use Rattle.recording.specs.Reading.{freshReader, awaiting, placeOf, grown, nextNumber, more, kindByte, numbered, requestRead, groupRead, grouped, readByte}
-use Rattle.recording.specs.Taking.{settled, foundFrom, foundAt, lastDue}
+use Rattle.recording.specs.Reading.{freshReader, awaiting, grown, nextNumber, more, kindByte, numbered, requestRead, groupRead, grouped, readByte}
+use Rattle.recording.specs.Taking.{settled, foundFrom, foundAt}
+use Rattle.recording.specs.Scaffolding.{placeOf, lastDue}
 use Rattle.recording.specs.declared.Fault.{Fault}
 use Rattle.recording.specs.declared.Fault.the-variants.{Cut}
 use Rattle.recording.specs.declared.Record.{Record}
 use Rattle.recording.specs.declared.Place.the-variants.{Code, Upper}
 use Rattle.recording.specs.declared.Reader.{Reader}
-use Rattle.recording.specs.declared.Took.{Took}
-use Rattle.recording.specs.declared.Heard.{Heard}
-use Rattle.recording.specs.declared.Heard.the-variants.{More, Whole as HeardWhole, Bad as HeardBad}
-use Rattle.recording.specs.declared.taking.Found.{Found}
-use Rattle.recording.specs.declared.taking.Found.the-variants.{Whole, Bad}
-use Rattle.recording.proofs.Places.{within, Inside, begun-byte, place-inside}
+use Rattle.recording.specs.declared.Step.{Step}
+use Rattle.recording.specs.declared.Outcome.{Outcome}
+use Rattle.recording.specs.declared.Outcome.the-variants.{More, Whole as ByteWhole, Bad as ByteBad}
+use Rattle.recording.specs.declared.taking.NextRecord.{NextRecord}
+use Rattle.recording.specs.declared.taking.NextRecord.the-variants.{Whole, Bad}
+use Rattle.recording.proofs.Places.{within, Inside, begun-byte, with-number, place-inside}
 
 -- ---- the fold
 
@@ -33,10 +33,10 @@ unfolding foundFrom
 found-nil r at n = refl
 
 -- a byte, whose step is t
-pub found-step : (r : Reader) (at n b : ℕ) (s : List ℕ) (t : Took) → readByte r at b ≡ t
-    → foundFrom r at n (b ∷ s) ≡ settled (t .heard) (suc n) (foundFrom (t .reader) (suc at) (suc n) s)
+pub found-step : (r : Reader) (at n b : ℕ) (s : List ℕ) (t : Step) → readByte r at b ≡ t
+    → foundFrom r at n (b ∷ s) ≡ settled (t .outcome) (suc n) (foundFrom (t .reader) (suc at) (suc n) s)
 unfolding foundFrom
-found-step r at n b s t e = ap (λ (t : Took). settled (t .heard) (suc n) (foundFrom (t .reader) (suc at) (suc n) s)) e
+found-step r at n b s t e = ap (λ (t : Step). settled (t .outcome) (suc n) (foundFrom (t .reader) (suc at) (suc n) s)) e
 
 pub found-end : (r : Reader) (at n : ℕ) (s : List ℕ) (i : ℕ) → length s ≤ i → foundFrom r at n (drop i s) ≡ Bad Cut
 found-end r at n s i h = ap (foundFrom r at n) (drop-of-length-le s h) ∙ found-nil r at n
@@ -46,30 +46,34 @@ unfolding foundAt
 found-start s at = let e : at - at ≡ 0 = omega arith in ap (λ (n : ℕ). foundFrom freshReader at n (drop at s)) e
 
 -- the byte at i, whose step is t
-pub found-one : (r : Reader) (s : List ℕ) (i n : ℕ) → i < length s → (t : Took) → t ≡ readByte r i (getD s i 0)
-    → foundFrom r i n (drop i s) ≡ settled (t .heard) (n + 1) (foundFrom (t .reader) (i + 1) (n + 1) (drop (i + 1) s))
+pub found-one : (r : Reader) (s : List ℕ) (i n : ℕ) → i < length s → (t : Step) → t ≡ readByte r i (getD s i 0)
+    → foundFrom r i n (drop i s) ≡ settled (t .outcome) (n + 1) (foundFrom (t .reader) (i + 1) (n + 1) (drop (i + 1) s))
 found-one r s i n h t e = rw (drop-cons s i 0 h, add-one n, add-one i) (found-step r i n (getD s i 0) (drop (suc i) s) t (sym e))
 
-module _ (r : Reader) (s : List ℕ) (i n : ℕ) (h : i < length s) (t : Took) (e : t ≡ readByte r i (getD s i 0)) {o : Found}
+module _ (r : Reader) (s : List ℕ) (i n : ℕ) (h : i < length s) (t : Step) (e : t ≡ readByte r i (getD s i 0)) {o : NextRecord}
     (q : foundFrom r i n (drop i s) ≡ o) (m : ℕ) (k : m ≡ n + 1) where
-  settles : (y : Heard) → t .heard ≡ y → settled y m (foundFrom (t .reader) (i + 1) m (drop (i + 1) s)) ≡ o
+  settles : (y : Outcome) → t .outcome ≡ y → settled y m (foundFrom (t .reader) (i + 1) m (drop (i + 1) s)) ≡ o
   settles y f = rw (k, sym f) (sym (found-one r s i n h t e) ∙ q)
 
-  pub goes-on : t .heard ≡ More → foundFrom (t .reader) (i + 1) m (drop (i + 1) s) ≡ o
+  pub goes-on : t .outcome ≡ More → foundFrom (t .reader) (i + 1) m (drop (i + 1) s) ≡ o
   goes-on f = settles More f
 
-  pub is-whole : {x : Record} → t .heard ≡ HeardWhole x → Whole x m ≡ o
-  is-whole {x} f = settles (HeardWhole x) f
+  pub is-whole : {x : Record} → t .outcome ≡ ByteWhole x → Whole x m ≡ o
+  is-whole {x} f = settles (ByteWhole x) f
 
-  pub is-bad : {why : Fault} {at : ℕ} → t .heard ≡ HeardBad why at → Bad why ≡ o
-  is-bad {why} {at} f = settles (HeardBad why at) f
+  pub is-bad : {why : Fault} {at : ℕ} → t .outcome ≡ ByteBad why at → Bad why ≡ o
+  is-bad {why} {at} f = settles (ByteBad why at) f
 
 -- ---- the bytes
 
 -- a kind
 begins : (at k : ℕ) → k ≤ 4 → readByte freshReader at k ≡ more (awaiting at (placeOf k))
+unfolding readByte
+begins at k h = with-number at k h
+
+begins-request : (at : ℕ) → readByte freshReader at 0 ≡ more (awaiting at Code)
 unfolding readByte kindByte
-begins at k h = rw (le-ltb 4 k h) refl
+begins-request at = refl
 
 -- a number's only group
 only : (b : ℕ) → b < 128 → nextGroup 0 1 b ≡ Last b
@@ -100,29 +104,29 @@ module _ (at k b : ℕ) (h : k ≤ 4) where
   -- a number of one group
   pub of-two : b < 128 → (s : List ℕ)
       → foundFrom freshReader at 0 (k ∷ b ∷ s)
-      ≡ settled (numbered (placeOf k) (awaiting at (placeOf k)) b .heard) 2
+      ≡ settled (numbered (placeOf k) (awaiting at (placeOf k)) b .outcome) 2
       (foundFrom (numbered (placeOf k) (awaiting at (placeOf k)) b .reader) (suc (suc at)) 2 s)
   of-two l s =
       found-step freshReader at 0 k (b ∷ s) _ (begins at k h)
-      ∙ found-step (awaiting at (placeOf k)) (suc at) 1 b s _ (groups (awaiting at (placeOf k)) (suc at) b (Last b) (place-inside k) (only b l))
+      ∙ found-step (awaiting at (placeOf k)) (suc at) 1 b s _ (groups (awaiting at (placeOf k)) (suc at) b (Last b) (place-inside k h) (only b l))
 
   -- of two groups
   pub of-three : 128 ≤ b → (c : ℕ) → 0 < c → c < 128 → (s : List ℕ)
       → foundFrom freshReader at 0 (k ∷ b ∷ c ∷ s)
-      ≡ settled (numbered (placeOf k) (grown (awaiting at (placeOf k)) (b % 128) 128) (b % 128 + c * 128) .heard) 3
+      ≡ settled (numbered (placeOf k) (grown (awaiting at (placeOf k)) (b % 128) 128) (b % 128 + c * 128) .outcome) 3
       (foundFrom (numbered (placeOf k) (grown (awaiting at (placeOf k)) (b % 128) 128) (b % 128 + c * 128) .reader) (suc (suc (suc at))) 3 s)
   of-three l c p q s =
       found-step freshReader at 0 k (b ∷ c ∷ s) _ (begins at k h)
-      ∙ found-step (awaiting at (placeOf k)) (suc at) 1 b (c ∷ s) _ (groups (awaiting at (placeOf k)) (suc at) b (OneMore (b % 128) 128) (place-inside k) (first b l))
+      ∙ found-step (awaiting at (placeOf k)) (suc at) 1 b (c ∷ s) _ (groups (awaiting at (placeOf k)) (suc at) b (OneMore (b % 128) 128) (place-inside k h) (first b l))
       ∙ found-step (grown (awaiting at (placeOf k)) (b % 128) 128) (suc (suc at)) 2 c s _
-      (groups (grown (awaiting at (placeOf k)) (b % 128) 128) (suc (suc at)) c (Last (b % 128 + c * 128)) (place-inside k) (second (b % 128) c (omega arith) p q))
+      (groups (grown (awaiting at (placeOf k)) (b % 128) 128) (suc (suc at)) c (Last (b % 128 + c * 128)) (place-inside k h) (second (b % 128) c (omega arith) p q))
 
 -- a request
 pub of-four : (at c u l : ℕ) → c < 128 → u < 128 → l < 128 → (s : List ℕ)
     → foundFrom freshReader at 0 (0 ∷ c ∷ u ∷ l ∷ s)
-    ≡ settled (requestRead (lastDue at c u) l .heard) 4 (foundFrom (requestRead (lastDue at c u) l .reader) (suc (suc (suc (suc at)))) 4 s)
+    ≡ settled (requestRead (lastDue at c u) l .outcome) 4 (foundFrom (requestRead (lastDue at c u) l .reader) (suc (suc (suc (suc at)))) 4 s)
 of-four at c u l p q h s =
-    found-step freshReader at 0 0 (c ∷ u ∷ l ∷ s) _ (begins at 0 (omega arith))
+    found-step freshReader at 0 0 (c ∷ u ∷ l ∷ s) _ (begins-request at)
     ∙ found-step (awaiting at Code) (suc at) 1 c (u ∷ l ∷ s) _ (groups (awaiting at Code) (suc at) c (Last c) (hit within 1 tt) (only c p))
     ∙ found-step (nextNumber (awaiting at Code) c 0 Upper) (suc (suc at)) 2 u (l ∷ s) _
     (groups (nextNumber (awaiting at Code) c 0 Upper) (suc (suc at)) u (Last u) (hit within 2 tt) (only u q))
@@ -147,20 +151,20 @@ module _ (s : List ℕ) (at : ℕ) (h : at + 4 ≤ length s) where
       three ∙ ap (λ (t : List ℕ). getD s at 0 ∷ getD s (at + 1) 0 ∷ getD s (at + 2) 0 ∷ t) (behind s (at + 3) (at + 4) (omega (arith, h)) (omega arith))
 
   -- what x is, whatever the reader and the rest, is found there
-  pub found-two : getD s at 0 ≤ 4 → getD s (at + 1) 0 < 128 → {x : Found}
-      → ((r : Reader) (rest : Found) → x ≡ settled (numbered (placeOf (getD s at 0)) r (getD s (at + 1) 0) .heard) 2 rest) → x ≡ foundAt s at
+  pub found-two : getD s at 0 ≤ 4 → getD s (at + 1) 0 < 128 → {x : NextRecord}
+      → ((r : Reader) (rest : NextRecord) → x ≡ settled (numbered (placeOf (getD s at 0)) r (getD s (at + 1) 0) .outcome) 2 rest) → x ≡ foundAt s at
   unfolding foundAt
   found-two k b e = e _ _ ∙ sym (of-two at (getD s at 0) (getD s (at + 1) 0) k b (drop (at + 2) s)) ∙ ap (foundFrom freshReader at 0) (sym two)
 
-  pub found-three : getD s at 0 ≤ 4 → 128 ≤ getD s (at + 1) 0 → 0 < getD s (at + 2) 0 → getD s (at + 2) 0 < 128 → {x : Found}
-      → ((r : Reader) (rest : Found) → x ≡ settled (numbered (placeOf (getD s at 0)) r (getD s (at + 1) 0 % 128 + getD s (at + 2) 0 * 128) .heard) 3 rest)
+  pub found-three : getD s at 0 ≤ 4 → 128 ≤ getD s (at + 1) 0 → 0 < getD s (at + 2) 0 → getD s (at + 2) 0 < 128 → {x : NextRecord}
+      → ((r : Reader) (rest : NextRecord) → x ≡ settled (numbered (placeOf (getD s at 0)) r (getD s (at + 1) 0 % 128 + getD s (at + 2) 0 * 128) .outcome) 3 rest)
       → x ≡ foundAt s at
   unfolding foundAt
   found-three k b p q e =
       e _ _ ∙ sym (of-three at (getD s at 0) (getD s (at + 1) 0) k b (getD s (at + 2) 0) p q (drop (at + 3) s)) ∙ ap (foundFrom freshReader at 0) (sym three)
 
-  pub found-four : getD s at 0 ≡ 0 → getD s (at + 1) 0 < 128 → getD s (at + 2) 0 < 128 → getD s (at + 3) 0 < 128 → {x : Found}
-      → ((o : ℕ) (rest : Found) → x ≡ settled (requestRead (lastDue o (getD s (at + 1) 0) (getD s (at + 2) 0)) (getD s (at + 3) 0) .heard) 4 rest)
+  pub found-four : getD s at 0 ≡ 0 → getD s (at + 1) 0 < 128 → getD s (at + 2) 0 < 128 → getD s (at + 3) 0 < 128 → {x : NextRecord}
+      → ((o : ℕ) (rest : NextRecord) → x ≡ settled (requestRead (lastDue o (getD s (at + 1) 0) (getD s (at + 2) 0)) (getD s (at + 3) 0) .outcome) 4 rest)
       → x ≡ foundAt s at
   unfolding foundAt
   found-four k c u l e =

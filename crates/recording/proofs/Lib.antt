@@ -1,5 +1,6 @@
 pub mod Lists
 pub mod Places
+pub mod Faults
 pub mod Folds
 pub mod Numbers
 pub mod Trips

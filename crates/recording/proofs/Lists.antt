@@ -7,8 +7,8 @@ use native.Mathlib.Nat.{mod-eq-of-lt}
 use native.Mathlib.Omega.{arith}
 use lib.Dec.{ltb, eqb}
 use borrow.Author.Tests.{lt-ltb, ne-eqb}
-use Rattle.numbers.specs.Rules.{same}
-use Rattle.numbers.proofs.Rules.{fails-false, by-cases}
+use Rattle.refusals.specs.Rules.{same}
+use Rattle.refusals.proofs.Rules.{fails-false, by-cases}
 use Rattle.dispenser_frame.specs.Table.{table, codeIn, known, answerFields, answerLength}
 use Rattle.dispenser_frame.specs.Errors.{among}
 use Rattle.xor_frame.proofs.Lengths.{length-none, length-some}

@@ -7,16 +7,16 @@ use native.Mathlib.Omega.{arith}
 use lib.ListN.{length, drop}
 use types.Run.{hit}
 use borrow.Author.Tests.{lt-ltb, le-ltb}
-use Rattle.numbers.specs.Rules.{atMost}
-use Rattle.numbers.specs.Seven.{groupAfter, afterGroup, readFrom}
+use Rattle.refusals.specs.Rules.{atMost}
+use Rattle.numbers.specs.Seven.{numberEnd, groupAfter, afterGroup, readFrom}
 use Rattle.numbers.specs.declared.Group.{Group}
 use Rattle.numbers.specs.declared.Group.the-variants.{More as OneMore, Last, Wrong}
 use Rattle.numbers.specs.declared.Seven.{Seven}
 use Rattle.numbers.specs.declared.Seven.the-variants.{Value, Bad as NoNumber, Cut as NoEnd}
-use Rattle.numbers.proofs.Rules.{by-cases, holds-true, fails-false}
+use Rattle.refusals.proofs.Rules.{by-cases, holds-true, fails-false}
 use Rattle.numbers.proofs.Groups.{Weight, weight-most, Found, found, found-more, next-begun, read-cons, read-nil}
 use Rattle.dispenser_frame.specs.Table.{known}
-use Rattle.recording.specs.Record.{numberEnd, inList, kindOf, numbersOf, howMany, takes, AllBelow}
+use Rattle.recording.specs.Record.{inList, kindOf, numbersOf, isKind, howMany, takes, AllBelow}
 use Rattle.recording.specs.Reading.{Reading, bad, grown, more, whole, numbered, requestRead, byteRead, commandRead, groupRead, grouped, went, closing, readingFrom}
 use Rattle.recording.specs.declared.Fault.the-variants.{BadNumber, Cut, Unknown}
 use Rattle.recording.specs.declared.Record.{Record}
@@ -24,8 +24,8 @@ use Rattle.recording.specs.declared.Record.the-variants.{Request, Dispen
 use Rattle.recording.specs.declared.Place.{Place}
 use Rattle.recording.specs.declared.Place.the-variants.{Code, Upper, Lower, FromDispenser, Milliseconds, FromValidator, ToValidator}
 use Rattle.recording.specs.declared.Reader.{Reader}
-use Rattle.recording.specs.declared.Took.{Took}
-use Rattle.recording.specs.declared.Heard.the-variants.{Bad}
+use Rattle.recording.specs.declared.Step.{Step}
+use Rattle.recording.specs.declared.Outcome.the-variants.{Bad}
 use Rattle.recording.proofs.Places.{within, Inside, begun-byte, begun-ended}
 use Rattle.recording.proofs.Folds.{reading-nil, reading-cons}
 
@@ -71,7 +71,7 @@ stage-start (from-validator a w c u) = refl
 stage-start (to-validator a w c u) = refl
 
 -- a kind that is listed, with fewer numbers than it has
-pub stage-kind : {at k : ℕ} {ns : List ℕ} {r : Reader} → Stage at k ns r → (k ≤ 4) × (length ns < howMany k)
+pub stage-kind : {at k : ℕ} {ns : List ℕ} {r : Reader} → Stage at k ns r → isKind k .holds × (length ns < howMany k)
 stage-kind (code a w c u) = (omega arith, omega arith)
 stage-kind (upper a w c u) = (omega arith, omega arith)
 stage-kind (lower a w c u) = (omega arith, omega arith)
@@ -82,10 +82,10 @@ stage-kind (to-validator a w c u) = (omega arith, omega arith)
 
 -- ---- what a number brings, after which the numbers are ms
 
-pub data Turn (at k : ℕ) (ms : List ℕ) : Took → Type 0 where
+pub data Turn (at k : ℕ) (ms : List ℕ) : Step → Type 0 where
   next : (r : Reader) → Stage at k ms r → r .acc ≡ 0 → r .weight ≡ 1 → Turn at k ms (more r)
   done : (x : Record) → kindOf x ≡ k → numbersOf x ≡ ms → takes k ms .holds → Turn at k ms (whole x)
-  other : (t : Took) → length ms ≡ howMany k → (takes k ms .holds → ⊥) → t .heard ≡ Bad Unknown at → Turn at k ms t
+  other : (t : Step) → length ms ≡ howMany k → (takes k ms .holds → ⊥) → t .outcome ≡ Bad Unknown at → Turn at k ms t
 
 -- a count that is kept is what was read
 kept : (u : ℕ) → u < numberEnd → u % numberEnd ≡ u
@@ -122,7 +122,7 @@ module _ (at k : ℕ) (ns : List ℕ) where
     pub stage : Stage at k ns r
     pub i : ℕ
     pub took : used ≡ j + i
-    pub is : o ≡ went (numbered (r .place) r n .heard) (readingFrom (numbered (r .place) r n .reader) (p + i) (drop i u))
+    pub is : o ≡ went (numbered (r .place) r n .outcome) (readingFrom (numbered (r .place) r n .reader) (p + i) (drop i u))
 
   abbrev pub Comes : ℕ → ℕ → List ℕ → Seven → Reading → Type 0
   Comes j p u (Value n used) o = Ends j p u n used o
@@ -131,18 +131,18 @@ module _ (at k : ℕ) (ns : List ℕ) where
 
   comes-later : (j p b : ℕ) (u : List ℕ) (v : Seven) (o : Reading) → Comes (suc j) (suc p) u v o → Comes j p (b ∷ u) v o
   comes-later j p b u (Value n used) o e =
-      record { r = e .r; stage = e .stage; i = suc (e .i); took = omega (arith, e .took); is = e .is ∙ ap (λ (q : ℕ). went (numbered (e .r .place) (e .r) n .heard) (readingFrom (numbered (e .r .place) (e .r) n .reader) q (drop (e .i) u))) (omega arith) }
+      record { r = e .r; stage = e .stage; i = suc (e .i); took = omega (arith, e .took); is = e .is ∙ ap (λ (q : ℕ). went (numbered (e .r .place) (e .r) n .outcome) (readingFrom (numbered (e .r .place) (e .r) n .reader) q (drop (e .i) u))) (omega arith) }
   comes-later j p b u NoNumber o e = e
   comes-later j p b u NoEnd o e = e
 
   -- a byte of the number is a group
   one-group : (r : Reader) → Stage at k ns r → r .acc < r .weight → (j : ℕ) → Weight j (r .weight) → (p b : ℕ) (u : List ℕ)
       → readingFrom r p (b ∷ u)
-      ≡ went (groupRead (groupAfter (r .acc) (r .weight) b) r .heard) (readingFrom (groupRead (groupAfter (r .acc) (r .weight) b) r .reader) (suc p) u)
+      ≡ went (groupRead (groupAfter (r .acc) (r .weight) b) r .outcome) (readingFrom (groupRead (groupAfter (r .acc) (r .weight) b) r .reader) (suc p) u)
   unfolding grouped
   one-group r s l j v p b u =
       reading-cons r p b u
-      ∙ ap (λ (t : Took). went (t .heard) (readingFrom (t .reader) (suc p) u))
+      ∙ ap (λ (t : Step). went (t .outcome) (readingFrom (t .reader) (suc p) u))
       (begun-byte r p b (stage-inside s) ∙ ap (λ (g : Group). groupRead g r) (next-begun (r .acc) (r .weight) b l (weight-most v)))
 
   pub number-law : (u : List ℕ) (r : Reader) → Stage at k ns r → r .acc < r .weight → (j : ℕ) → Weight j (r .weight) → (p : ℕ)
@@ -155,10 +155,10 @@ module _ (at k : ℕ) (ns : List ℕ) where
       by : ((r : Reader) → Stage at k ns r → r .acc < r .weight → (j : ℕ) → Weight j (r .weight) → (p : ℕ)
           → Comes j p u (readFrom j (r .acc) (r .weight) u) (readingFrom r p u))
           → (g : Group) → Found (r .acc) (r .weight) b g
-          → Comes j p (b ∷ u) (afterGroup (λ a w. readFrom (suc j) a w u) (suc j) g) (went (groupRead g r .heard) (readingFrom (groupRead g r .reader) (suc p) u))
+          → Comes j p (b ∷ u) (afterGroup (λ a w. readFrom (suc j) a w u) (suc j) g) (went (groupRead g r .outcome) (readingFrom (groupRead g r .reader) (suc p) u))
       by rest (OneMore a w) f =
           let m = found-more l v f in
           comes-later j p b u (readFrom (suc j) a w u) (readingFrom (grown r a w) (suc p) u) (rest (grown r a w) (stage-grown s a w) (m .0) (suc j) (m .1) (suc p))
       by rest (Last n) f =
-          record { r = r; stage = s; i = 1; took = omega arith; is = ap (λ (q : ℕ). went (numbered (r .place) r n .heard) (readingFrom (numbered (r .place) r n .reader) q u)) (omega arith) }
+          record { r = r; stage = s; i = 1; took = omega arith; is = ap (λ (q : ℕ). went (numbered (r .place) r n .outcome) (readingFrom (numbered (r .place) r n .reader) q u)) (omega arith) }
       by rest Wrong f = ap (bad BadNumber) (stage-start s)

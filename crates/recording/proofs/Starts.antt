@@ -1,49 +1,48 @@
 -- From one record to the next: what is found where a record is due is what the recording says there, and then it goes on between records.
 -- Assumes nothing.
-use Prim.Native.Nat.{ℕ, suc, _+_, _%_, _≤_, _<_}
+use Prim.Native.Nat.{ℕ, zero, suc, _+_, _%_, _≤_, _<_}
 use mathlib.Core.Path.{_≡_, refl, sym, ap, _∙_, subst}
 use mathlib.Core.Bool.{Bool, true, false, cond}
 use mathlib.Core.List.{List, [], _∷_, _++_}
 use native.Mathlib.Omega.{arith}
-use lib.Dec.{ltb}
 use lib.ListN.{length, take, drop, length-drop, take-append-drop}
 use lib.Seq.{drop-drop}
 use types.Run.{hit, miss}
-use Rattle.numbers.specs.Rules.{Condition, under, isnt, judged, _gives_}
-use Rattle.numbers.specs.Seven.{nextGroup}
+use Rattle.refusals.specs.Rules.{Condition, under, isnt, judged, _gives_}
+use Rattle.numbers.specs.Seven.{numberEnd, nextGroup}
 use Rattle.numbers.specs.declared.Group.{Group}
 use Rattle.numbers.specs.declared.Group.the-variants.{More as OneMore, Last, Wrong}
 use Rattle.dispenser_frame.specs.Table.{known}
-use Rattle.recording.specs.Record.{numberEnd, inList}
-use Rattle.recording.specs.Reading.{Reading, bad, freshReader, awaiting, placeOf, grown, nextNumber, more, whole, refusedAt, refused, kindByte, numbered, requestRead, byteRead, commandRead, groupRead, grouped, readByte, also, went, closing, readingFrom}
+use Rattle.recording.specs.Record.{inList}
+use Rattle.recording.specs.Reading.{Reading, bad, freshReader, awaiting, grown, nextNumber, more, whole, refusedAt, refused, kindByte, numbered, requestRead, byteRead, commandRead, groupRead, grouped, readByte, also, went, closing, readingFrom}
 use Rattle.recording.specs.Taking.{settled, foundFrom, foundAt}
 use Rattle.recording.specs.declared.Fault.{Fault}
 use Rattle.recording.specs.declared.Fault.the-variants.{BadNumber, Cut, Unknown}
 use Rattle.recording.specs.declared.Record.{Record}
 use Rattle.recording.specs.declared.Record.the-variants.{Request, DispenserByte, Tick, ValidatorByte, Command}
 use Rattle.recording.specs.declared.Place.{Place}
-use Rattle.recording.specs.declared.Place.the-variants.{Kind, Code, Upper, Lower, FromDispenser, Milliseconds, FromValidator, ToValidator}
+use Rattle.recording.specs.declared.Place.the-variants.{Kind, Code, Upper, Lower, FromDispenser, Milliseconds, FromValidator, ToValidator, Broken}
 use Rattle.recording.specs.declared.Reader.{Reader}
-use Rattle.recording.specs.declared.Took.{Took}
-use Rattle.recording.specs.declared.taking.Found.{Found}
-use Rattle.recording.specs.declared.taking.Found.the-variants.{Whole, Bad}
-use Rattle.recording.proofs.Places.{within, Inside, begun-byte, begun-ended, place-inside}
+use Rattle.recording.specs.declared.Step.{Step}
+use Rattle.recording.specs.declared.taking.NextRecord.{NextRecord}
+use Rattle.recording.specs.declared.taking.NextRecord.the-variants.{Whole, Bad}
+use Rattle.recording.proofs.Places.{within, Inside, begun-byte, begun-ended}
 use Rattle.recording.proofs.Folds.{reading-nil, reading-cons}
 use Rattle.recording.proofs.Glances.{found-nil, found-step}
 
 -- ---- what a byte of the record that starts at o leaves
 
-data Held (o : ℕ) : Took → Type 0 where
+data Held (o : ℕ) : Step → Type 0 where
   begun : (r : Reader) → Inside (r .place) → r .start ≡ o → Held o (more r)
   complete : (x : Record) → Held o (whole x)
-  faulty : (r : Reader) (why : Fault) → Held o (refusedAt r o why)
+  faulty : (why : Fault) → Held o (refusedAt o why)
 
-held-either : {o : ℕ} (t : Bool) {x y : Took} → Held o x → Held o y → Held o (cond t x y)
+held-either : {o : ℕ} (t : Bool) {x y : Step} → Held o x → Held o y → Held o (cond t x y)
 held-either true a b = a
 held-either false a b = b
 
 held-refused : {o : ℕ} (r : Reader) (why : Fault) → r .start ≡ o → Held o (refused r why)
-held-refused {o} r why e = subst (λ (p : ℕ). Held o (refusedAt r p why)) (sym e) (faulty r why)
+held-refused {o} r why e = subst (λ (p : ℕ). Held o (refusedAt p why)) (sym e) (faulty why)
 
 -- a record, unless its value is refused
 held-value : {o : ℕ} (c : Condition) (r : Reader) (x : Record) → r .start ≡ o → Held o (judged (c gives Unknown ∷ []) (refused r) (whole x))
@@ -59,6 +58,7 @@ held-number FromDispenser i r n e = held-value (under 255 n) r (DispenserByte n)
 held-number Milliseconds i r n e = complete (Tick n)
 held-number FromValidator i r n e = held-value (under 255 n) r (ValidatorByte n) e
 held-number ToValidator i r n e = held-value (isnt (inList n)) r (Command n) e
+held-number (Broken why) i r n e = absurd (miss within 8 tt i)
 
 held-group : {o : ℕ} (g : Group) (r : Reader) → Inside (r .place) → r .start ≡ o → Held o (groupRead g r)
 held-group (OneMore a w) r i e = begun (grown r a w) i e
@@ -72,17 +72,22 @@ held-byte {o} r at b i e = subst (Held o) (sym (begun-byte r at b i)) (held-grou
 -- its kind
 held-kind : (at b : ℕ) → Held at (readByte freshReader at b)
 unfolding readByte kindByte
-held-kind at b = held-either (ltb 4 b) (faulty freshReader Unknown) (begun (awaiting at (placeOf b)) (place-inside b) refl)
+held-kind at zero = begun (awaiting at Code) (hit within 1 tt) refl
+held-kind at (suc zero) = begun (awaiting at FromDispenser) (hit within 4 tt) refl
+held-kind at (suc (suc zero)) = begun (awaiting at Milliseconds) (hit within 5 tt) refl
+held-kind at (suc (suc (suc zero))) = begun (awaiting at FromValidator) (hit within 6 tt) refl
+held-kind at (suc (suc (suc (suc zero)))) = begun (awaiting at ToValidator) (hit within 7 tt) refl
+held-kind at (suc (suc (suc (suc (suc k))))) = faulty Unknown
 
 -- ---- g says what bytes from p on say, and n bytes of the record at a were read: what is found in s
 
-data Leads (a p n : ℕ) (s : List ℕ) (g : List ℕ → Reading) : Found → Type 0 where
+data Leads (a p n : ℕ) (s : List ℕ) (g : List ℕ → Reading) : NextRecord → Type 0 where
   -- the first k bytes of s complete x, whatever follows them
   one : (x : Record) (k : ℕ) → 0 < k → k ≤ length s → ((t : List ℕ) → g (take k s ++ t) ≡ also x (readingFrom freshReader (p + k) t))
       → Leads a p n s g (Whole x (n + k))
   none : (why : Fault) → g s ≡ bad why a → Leads a p n s g (Bad why)
 
-leads-later : {a p n b : ℕ} {s : List ℕ} {g : List ℕ → Reading} {f : Found} (r : Reader) → ((u : List ℕ) → g (b ∷ u) ≡ readingFrom r (suc p) u)
+leads-later : {a p n b : ℕ} {s : List ℕ} {g : List ℕ → Reading} {f : NextRecord} (r : Reader) → ((u : List ℕ) → g (b ∷ u) ≡ readingFrom r (suc p) u)
     → Leads a (suc p) (suc n) s (readingFrom r (suc p)) f → Leads a p n (b ∷ s) g f
 leads-later {a} {p} {n} {b} {s} {g} r c (one x k h l e) =
     let f : n + suc k ≡ suc n + k = omega arith in
@@ -91,17 +96,17 @@ leads-later {a} {p} {n} {b} {s} {g} r c (one x k h l e) =
     (one x (suc k) (omega arith) (omega (arith, l)) (λ t. c (take k s ++ t) ∙ e t ∙ ap (λ (i : ℕ). also x (readingFrom freshReader i t)) q))
 leads-later {s} r c (none why e) = none why (c s ∙ e)
 
-leads-byte : {a p n b : ℕ} {s : List ℕ} {g : List ℕ → Reading} (t : Took) → Held a t
-    → ((u : List ℕ) → g (b ∷ u) ≡ went (t .heard) (readingFrom (t .reader) (suc p) u))
+leads-byte : {a p n b : ℕ} {s : List ℕ} {g : List ℕ → Reading} (t : Step) → Held a t
+    → ((u : List ℕ) → g (b ∷ u) ≡ went (t .outcome) (readingFrom (t .reader) (suc p) u))
     → ((r : Reader) → Inside (r .place) → r .start ≡ a → Leads a (suc p) (suc n) s (readingFrom r (suc p)) (foundFrom r (suc p) (suc n) s))
-    → Leads a p n (b ∷ s) g (settled (t .heard) (suc n) (foundFrom (t .reader) (suc p) (suc n) s))
+    → Leads a p n (b ∷ s) g (settled (t .outcome) (suc n) (foundFrom (t .reader) (suc p) (suc n) s))
 leads-byte t (begun r i e) c later = leads-later r c (later r i e)
 leads-byte {a} {p} {n} {b} {s} {g} t (complete x) c later =
     let f : n + 1 ≡ suc n = omega arith in
     let q : suc p ≡ p + 1 = omega arith in
     subst (λ (m : ℕ). Leads a p n (b ∷ s) g (Whole x m)) f
     (one x 1 (omega arith) (omega arith) (λ t. c t ∙ ap (λ (i : ℕ). also x (readingFrom freshReader i t)) q))
-leads-byte {s} t (faulty r why) c later = none why (c s)
+leads-byte {s} t (faulty why) c later = none why (c s)
 
 inside-leads : (s : List ℕ) {a : ℕ} (r : Reader) → Inside (r .place) → r .start ≡ a → (p n : ℕ) → Leads a p n s (readingFrom r p) (foundFrom r p n s)
 inside-leads [] {a} r i e p n =
@@ -124,7 +129,7 @@ pub record Stands (s : List ℕ) (i : ℕ) (x : Record) (n : ℕ) : Type 0 where
   pub fits : i + n ≤ length s
   pub alone : (t : List ℕ) → readingFrom freshReader i (take n (drop i s) ++ t) ≡ also x (readingFrom freshReader (i + n) t)
 
-one-read : (s : List ℕ) (i : ℕ) → i < length s → {x : Record} {n : ℕ} {f : Found} → f ≡ Whole x n
+one-read : (s : List ℕ) (i : ℕ) → i < length s → {x : Record} {n : ℕ} {f : NextRecord} → f ≡ Whole x n
     → Leads i i 0 (drop i s) (readingFrom freshReader i) f → Stands s i x n
 one-read s i h {x} {n} q (one y k p l e) =
     let same : y ≡ x = cc in
@@ -134,11 +139,11 @@ one-read s i h {x} {n} q (one y k p l e) =
     (subst (λ (z : Record). Stands s i z k) same (record { some = p; fits = omega (arith, simp length-drop at l); alone = e }))
 one-read s i h q (none why e) = let z : _≡_ {A = ℕ} 0 1 = cc in absurd (omega arith)
 
-none-read : {i : ℕ} {s : List ℕ} {g : List ℕ → Reading} {why : Fault} {f : Found} → f ≡ Bad why → Leads i i 0 s g f → g s ≡ bad why i
+none-read : {i : ℕ} {s : List ℕ} {g : List ℕ → Reading} {why : Fault} {f : NextRecord} → f ≡ Bad why → Leads i i 0 s g f → g s ≡ bad why i
 none-read q (one y k p l e) = let z : _≡_ {A = ℕ} 0 1 = cc in absurd (omega arith)
 none-read {i} q (none w e) = e ∙ ap (λ (y : Fault). bad y i) cc
 
-module _ (s : List ℕ) (i : ℕ) (h : i < length s) (f : Found) (e : f ≡ foundAt s i) where
+module _ (s : List ℕ) (i : ℕ) (h : i < length s) (f : NextRecord) (e : f ≡ foundAt s i) where
   leads : Leads i i 0 (drop i s) (readingFrom freshReader i) f
   unfolding foundAt
   leads = subst (Leads i i 0 (drop i s) (readingFrom freshReader i)) (sym e) (due-leads (drop i s) i (simp length-drop (omega (arith, h))))

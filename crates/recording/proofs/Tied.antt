@@ -1,6 +1,6 @@
 -- No contract of this crate leaves a choice: two outcomes that it allows for the same arguments coincide. Said of the contracts themselves,
 -- since each is one equation. Assumes nothing.
-use Rattle.numbers.proofs.Tied.{Tied, tied}
+use Rattle.refusals.proofs.Tied.{Tied, tied}
 use Rattle.recording.proofs.Fault.number.Kinds as fault-number
 use Rattle.recording.proofs.Fault.number.Reads as fault-number-reads
 use Rattle.recording.proofs.Reader.fresh.Kinds as fresh

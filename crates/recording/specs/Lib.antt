@@ -2,4 +2,5 @@
 pub mod Record
 pub mod Reading
 pub mod Taking
+pub mod Scaffolding
 pub mod Promises

@@ -1,28 +1,31 @@
 -- What is promised of recordings: each record read is what its bytes say, a record may be taken at once, and each of 21 to 24 is given exactly
--- when 01 says. Proved in proofs/Back.antt and proofs/Exact.antt.
+-- when 01 says, and a fault stays. Proved in proofs/Back.antt, proofs/Exact.antt and proofs/Faults.antt.
 use Prim.Native.Nat.{ℕ, _+_, _≤_, _<_}
 use mathlib.Core.Path.{_≡_}
 use mathlib.Core.List.{List, _∷_, _++_}
 use mathlib.Core.Logic.{_↔_}
 use lib.ListN.{length, drop}
-use Rattle.numbers.specs.Promises.{Bytes}
+use Rattle.numbers.specs.Promises.{AllBytes}
 use Rattle.numbers.specs.Seven.{readGroups}
 use Rattle.numbers.specs.declared.Seven.the-variants.{Bad as NoNumber, Cut as NoEnd}
-use Rattle.recording.specs.Record.{mostBytes, howMany, takes, AllBelow, laidNumbers, recordBytes, InRange, laid, AllInRange}
-use Rattle.recording.specs.Reading.{records, bad, freshReader, also, readingFrom, readRecording}
+use Rattle.recording.specs.Record.{mostBytes, isKind, howMany, takes, AllBelow, laidNumbers, recordBytes, InRange, laid, AllInRange}
+use Rattle.recording.specs.Reading.{records, bad, freshReader, readByte, ended, readerAfter, also, readingFrom, readRecording}
 use Rattle.recording.specs.Taking.{foundAt}
 use Rattle.recording.specs.declared.Fault.{Fault}
 use Rattle.recording.specs.declared.Fault.the-variants.{BadNumber, Cut, Unknown, Long}
 use Rattle.recording.specs.declared.Record.{Record}
-use Rattle.recording.specs.declared.taking.Found.the-variants.{Whole, Bad}
+use Rattle.recording.specs.declared.Reader.{Reader}
+use Rattle.recording.specs.declared.Outcome.the-variants.{Bad as ByteBad}
+use Rattle.recording.specs.declared.Verdict.the-variants.{Bad as NotGood}
+use Rattle.recording.specs.declared.taking.NextRecord.the-variants.{Whole, Bad}
 
 -- why no record stands at the start of these bytes: an unknown kind; its numbers ns, and not the values that its kind takes; fewer numbers than
 -- it has, and then bytes that are no number, or an end before the last group of one
 pub data Faulty : Fault → List ℕ → Type 0 where
-  kind : (k : ℕ) (t : List ℕ) → 4 < k → Faulty Unknown (k ∷ t)
-  value : (k : ℕ) (ns t : List ℕ) → k ≤ 4 → length ns ≡ howMany k → AllBelow ns → (takes k ns .holds → ⊥) → Faulty Unknown (k ∷ laidNumbers ns ++ t)
-  number : (k : ℕ) (ns t : List ℕ) → k ≤ 4 → length ns < howMany k → AllBelow ns → readGroups t ≡ NoNumber → Faulty BadNumber (k ∷ laidNumbers ns ++ t)
-  cut : (k : ℕ) (ns t : List ℕ) → k ≤ 4 → length ns < howMany k → AllBelow ns → readGroups t ≡ NoEnd → Faulty Cut (k ∷ laidNumbers ns ++ t)
+  kind : (k : ℕ) (t : List ℕ) → (isKind k .holds → ⊥) → Faulty Unknown (k ∷ t)
+  value : (k : ℕ) (ns t : List ℕ) → isKind k .holds → length ns ≡ howMany k → AllBelow ns → (takes k ns .holds → ⊥) → Faulty Unknown (k ∷ laidNumbers ns ++ t)
+  number : (k : ℕ) (ns t : List ℕ) → isKind k .holds → length ns < howMany k → AllBelow ns → readGroups t ≡ NoNumber → Faulty BadNumber (k ∷ laidNumbers ns ++ t)
+  cut : (k : ℕ) (ns t : List ℕ) → isKind k .holds → length ns < howMany k → AllBelow ns → readGroups t ≡ NoEnd → Faulty Cut (k ∷ laidNumbers ns ++ t)
 
 -- good records, and behind them, at an offset, one that is none
 pub record Breaks (why : Fault) (at : ℕ) (s : List ℕ) : Type 0 where
@@ -41,13 +44,23 @@ ReadsBack = (x : Record) → InRange x → (at : ℕ) (t : List ℕ)
 -- what is found where a record is due, in a recording of bytes: a record exactly where its bytes stand there, and it is in range; why there is none exactly
 -- where that is so
 pub record TakenAtOnce : Type 0 where
-  pub whole : (s : List ℕ) (at : ℕ) → Bytes s → at < length s → (x : Record) (n : ℕ)
+  pub whole : (s : List ℕ) (at : ℕ) → AllBytes s → at < length s → (x : Record) (n : ℕ)
       → (foundAt s at ≡ Whole x n) ↔ (InRange x × (n ≡ length (recordBytes x)) × (drop at s ≡ recordBytes x ++ drop (at + n) s))
-  pub faulty : (s : List ℕ) (at : ℕ) → Bytes s → at < length s → (why : Fault) → (foundAt s at ≡ Bad why) ↔ Faulty why (drop at s)
+  pub faulty : (s : List ℕ) (at : ℕ) → AllBytes s → at < length s → (why : Fault) → (foundAt s at ≡ Bad why) ↔ Faulty why (drop at s)
 
 -- a recording is good exactly where it is the bytes of records, and its records are those; 21, 22 and 23 exactly where the first record that
 -- is none shows that fault, with its offset; 24 exactly where it is over 65,536 bytes, at offset 0, whatever else it holds
 pub record ExactlyWhen : Type 0 where
-  pub good : (s : List ℕ) (xs : List Record) → Bytes s → (readRecording s ≡ records xs) ↔ ((length s ≤ mostBytes) × AllInRange xs × (s ≡ laid xs))
-  pub broken : (s : List ℕ) (why : Fault) (at : ℕ) → Bytes s → length s ≤ mostBytes → (readRecording s ≡ bad why at) ↔ Breaks why at s
-  pub long : (s : List ℕ) (at : ℕ) → Bytes s → (readRecording s ≡ bad Long at) ↔ ((mostBytes < length s) × (at ≡ 0))
+  pub good : (s : List ℕ) (xs : List Record) → AllBytes s → (readRecording s ≡ records xs) ↔ ((length s ≤ mostBytes) × AllInRange xs × (s ≡ laid xs))
+  pub broken : (s : List ℕ) (why : Fault) (at : ℕ) → AllBytes s → length s ≤ mostBytes → (readRecording s ≡ bad why at) ↔ Breaks why at s
+  pub long : (s : List ℕ) (at : ℕ) → AllBytes s → (readRecording s ≡ bad Long at) ↔ ((mostBytes < length s) × (at ≡ 0))
+
+-- a reader at a fault: whatever bytes follow, wherever they stand, change nothing; each says that fault, and so does the end
+pub record Stays (why : Fault) (at : ℕ) (r : Reader) : Type 0 where
+  pub unchanged : (p : ℕ) (s : List ℕ) → readerAfter r p s ≡ r
+  pub byte : (p b : ℕ) → readByte r p b .outcome ≡ ByteBad why at
+  pub end : ended r ≡ NotGood why at
+
+-- "After a fault further pieces change nothing" (02, Q-7): of any reader
+abbrev pub FaultStays : Type 0
+FaultStays = (r : Reader) (p b : ℕ) (why : Fault) (at : ℕ) → readByte r p b .outcome ≡ ByteBad why at → Stays why at (readByte r p b .reader)

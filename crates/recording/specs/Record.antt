@@ -2,8 +2,9 @@
 use Prim.Native.Nat.{ℕ, zero, suc, _<_}
 use mathlib.Core.List.{List, [], _∷_, _++_}
 use lib.ListN.{getD}
-use Rattle.numbers.specs.Rules.{Condition, always, never, atMost}
-use Rattle.numbers.specs.Seven.{groups}
+use Rattle.refusals.specs.Numbers.{badNumber, cutShort, unknownValue, tooLong}
+use Rattle.refusals.specs.Rules.{Condition, always, never, atMost}
+use Rattle.numbers.specs.Seven.{numberEnd, groups}
 use Rattle.dispenser_frame.specs.Table.{known}
 use Rattle.dispenser_frame.specs.Errors.{among}
 use Rattle.recording.specs.declared.Fault.{Fault}
@@ -13,18 +14,14 @@ use Rattle.recording.specs.declared.Record.the-variants.{Request, Dispen
 
 -- 01's number for each fault: "bad number; cut short; unknown kind or value; over 65,536 bytes"
 abbrev pub faultNumber : Fault → ℕ
-faultNumber BadNumber = 21
-faultNumber Cut = 22
-faultNumber Unknown = 23
-faultNumber Long = 24
+faultNumber BadNumber = badNumber
+faultNumber Cut = cutShort
+faultNumber Unknown = unknownValue
+faultNumber Long = tooLong
 
 -- "over 65,536 bytes"
 abbrev pub mostBytes : ℕ
 mostBytes = 65_536
-
--- "below 4,294,967,296"
-abbrev pub numberEnd : ℕ
-numberEnd = 4_294_967_296
 
 -- kind 4: "code (30h, 33h, 35h, 36h, 38h)"
 unfoldable pub inList : ℕ → Condition
@@ -45,10 +42,18 @@ numbersOf (Tick ms) = ms ∷ []
 numbersOf (ValidatorByte b) = b ∷ []
 numbersOf (Command code) = code ∷ []
 
+-- the kinds that there are
+abbrev pub isKind : ℕ → Condition
+isKind k = atMost k 4
+
 -- how many numbers a record of a kind has
 abbrev pub howMany : ℕ → ℕ
 howMany zero = 3
-howMany (suc k) = 1
+howMany (suc zero) = 1
+howMany (suc (suc zero)) = 1
+howMany (suc (suc (suc zero))) = 1
+howMany (suc (suc (suc (suc zero)))) = 1
+howMany (suc (suc (suc (suc (suc k))))) = 0
 
 -- the values that a kind takes: "A code outside its kind's list or a byte above 255 is 23"; milliseconds and counts may be any
 abbrev pub takes : ℕ → List ℕ → Condition

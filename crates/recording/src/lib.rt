@@ -2,7 +2,7 @@
 // recording may come in pieces of any size. Where the bytes of a record stand together, `record_at` takes it at once, as those steps would.
 mod taking;
 
-pub use taking::Found;
+pub use taking::NextRecord;
 pub use taking::record_at;
 ghost use mathlib.Core.Path.{_≡_};
 ghost use Rattle.dispenser_frame.specs.Table.{known};
@@ -10,6 +10,7 @@ ghost use Rattle.recording.specs.Record.{faultNumber, inList};
 ghost use Rattle.recording.specs.Reading.{freshReader, awaiting, grown, nextNumber, more, whole, refusedAt, kindByte, numbered, requestRead, byteRead, commandRead, grouped, readByte, ended, verdict};
 use dispenser_frame::answer_length;
 use numbers::Group;
+use numbers::NUMBER_END;
 use numbers::next_group;
 
 // Why a recording is bad.
@@ -30,10 +31,10 @@ impl Fault {
         ensures { λ r. ⌜ r ≡ faultNumber self ⌝ }
     {
         match self {
-            Fault::BadNumber => 21,
-            Fault::Cut => 22,
-            Fault::Unknown => 23,
-            Fault::Long => 24,
+            Fault::BadNumber => refusals::NUMBER,
+            Fault::Cut => refusals::CUT,
+            Fault::Unknown => refusals::UNKNOWN,
+            Fault::Long => refusals::LONG,
         }
     }
 }
@@ -62,11 +63,13 @@ pub enum Place {
     Milliseconds,
     FromValidator,
     ToValidator,
+    // To nothing any more: the recording is bad, and stays so.
+    Broken(Fault),
 }
 
 // A recording read so far.
 pub struct Reader {
-    // Where the record begun has its kind byte.
+    // Where the record begun has its kind byte; of a bad recording, the record in which that shows.
     pub start: u64,
     // What the groups read of a number say, and 128 to their number.
     pub acc: u64,
@@ -78,17 +81,17 @@ pub struct Reader {
 }
 
 // What a byte brings.
-pub enum Heard {
+pub enum Outcome {
     More,
     Whole(Record),
     // Why the recording is bad, and the offset of the record in which it shows.
     Bad(Fault, u64),
 }
 
-// What a byte leaves.
-pub struct Took {
+// The step over one byte: what it leaves, and what it brings.
+pub struct Step {
     pub reader: Reader,
-    pub heard: Heard,
+    pub outcome: Outcome,
 }
 
 // What is said of a recording.
@@ -97,21 +100,21 @@ pub enum Verdict {
     Bad(Fault, u64),
 }
 
-fn more(reader: Reader) -> Took
+fn more(reader: Reader) -> Step
     ensures { λ r. ⌜ r ≡ more reader ⌝ }
 {
-    Took {
+    Step {
         reader,
-        heard: Heard::More,
+        outcome: Outcome::More,
     }
 }
 
-fn whole(x: Record) -> Took
+fn whole(x: Record) -> Step
     ensures { λ r. ⌜ r ≡ whole x ⌝ }
 {
-    Took {
+    Step {
         reader: Reader::fresh(),
-        heard: Heard::Whole(x),
+        outcome: Outcome::Whole(x),
     }
 }
 
@@ -198,20 +201,19 @@ impl Reader {
         }
     }
 
-    // Refused, with the offset of the record; the reader stays as it was.
-    fn refused(self, why: Fault, at: u64) -> Took
-        ensures { λ r. ⌜ r ≡ refusedAt self at why ⌝ }
+    // A fault in the record at an offset. The reader stays at it.
+    fn refused(why: Fault, at: u64) -> Step
+        ensures { λ r. ⌜ r ≡ refusedAt at why ⌝ }
     {
-        let reader = self.grown(self.acc, self.weight);
-        Took {
-            reader,
-            heard: Heard::Bad(why, at),
+        Step {
+            reader: Reader::awaiting(at, Place::Broken(why)),
+            outcome: Outcome::Bad(why, at),
         }
     }
 
     // A kind byte at an offset.
-    fn kind(self, at: u64, b: u8) -> Took
-        ensures { λ r. ⌜ r ≡ kindByte self at b ⌝ }
+    fn kind(at: u64, b: u8) -> Step
+        ensures { λ r. ⌜ r ≡ kindByte at b ⌝ }
     {
         if b == 0 {
             return more(Reader::awaiting(at, Place::Code));
@@ -228,55 +230,55 @@ impl Reader {
         if b == 4 {
             return more(Reader::awaiting(at, Place::ToValidator));
         }
-        self.refused(Fault::Unknown, at)
+        Reader::refused(Fault::Unknown, at)
     }
 
     // The last number of a request is read.
-    fn request(self, lower: u32) -> Took
+    fn request(self, lower: u32) -> Step
         ensures { λ r. ⌜ r ≡ requestRead self lower ⌝ }
     {
         if is_request(self.code) {
             return whole(Record::Request {
                 code: (self.code % 256) as u8,
-                upper: (self.upper % 4294967296) as u32,
+                upper: (self.upper % NUMBER_END) as u32,
                 lower,
             });
         }
-        self.refused(Fault::Unknown, self.start)
+        Reader::refused(Fault::Unknown, self.start)
     }
 
     // The number of a dispenser byte is read.
-    fn dispenser_byte(self, n: u32) -> Took
+    fn dispenser_byte(self, n: u32) -> Step
         ensures { λ r. ⌜ r ≡ byteRead self n (Record.DispenserByte n) ⌝ }
     {
         if 255 < n {
-            return self.refused(Fault::Unknown, self.start);
+            return Reader::refused(Fault::Unknown, self.start);
         }
         whole(Record::DispenserByte(n as u8))
     }
 
     // The number of a validator byte is read.
-    fn validator_byte(self, n: u32) -> Took
+    fn validator_byte(self, n: u32) -> Step
         ensures { λ r. ⌜ r ≡ byteRead self n (Record.ValidatorByte n) ⌝ }
     {
         if 255 < n {
-            return self.refused(Fault::Unknown, self.start);
+            return Reader::refused(Fault::Unknown, self.start);
         }
         whole(Record::ValidatorByte(n as u8))
     }
 
     // The code of a command to the validator is read.
-    fn command(self, code: u32) -> Took
+    fn command(self, code: u32) -> Step
         ensures { λ r. ⌜ r ≡ commandRead self code ⌝ }
     {
         if is_command(code) {
             return whole(Record::Command((code % 256) as u8));
         }
-        self.refused(Fault::Unknown, self.start)
+        Reader::refused(Fault::Unknown, self.start)
     }
 
-    // A number of the record is read. Where a kind byte is due no number is.
-    fn number(self, n: u32) -> Took
+    // A number of the record is read. Where a kind byte is due no number is, nor after a fault.
+    fn number(self, n: u32) -> Step
         ensures { λ r. ⌜ r ≡ numbered (self .place) self n ⌝ }
     {
         let p = self.place;
@@ -289,38 +291,41 @@ impl Reader {
             Place::Milliseconds => whole(Record::Tick(n)),
             Place::FromValidator => self.validator_byte(n),
             Place::ToValidator => self.command(n),
+            Place::Broken(why) => Reader::refused(why, self.start),
         }
     }
 
     // A group of a number.
-    fn group(self, b: u8) -> Took
+    fn group(self, b: u8) -> Step
         ensures { λ r. ⌜ r ≡ grouped self b ⌝ }
     {
         match next_group(self.acc, self.weight, b) {
             Group::More(acc, weight) => more(self.grown(acc, weight)),
             Group::Last(n) => self.number(n),
-            Group::Wrong => self.refused(Fault::BadNumber, self.start),
+            Group::Wrong => Reader::refused(Fault::BadNumber, self.start),
         }
     }
 
     // A byte of the recording, which stands at an offset.
-    pub fn byte(self, at: u64, b: u8) -> Took
+    pub fn byte(self, at: u64, b: u8) -> Step
         ensures { λ r. ⌜ r ≡ readByte self at b ⌝ }
     {
         let p = self.place;
         match p {
-            Place::Kind => self.kind(at, b),
+            Place::Kind => Reader::kind(at, b),
+            Place::Broken(why) => Reader::refused(why, self.start),
             _ => self.group(b),
         }
     }
 
-    // The recording has ended: it is cut short where a record is begun.
+    // The recording has ended: it is cut short where a record is begun, and bad where a fault was met.
     pub fn ended(self) -> Verdict
         ensures { λ r. ⌜ r ≡ ended self ⌝ }
     {
         let p = self.place;
         match p {
             Place::Kind => Verdict::Good,
+            Place::Broken(why) => Verdict::Bad(why, self.start),
             _ => Verdict::Bad(Fault::Cut, self.start),
         }
     }
@@ -336,15 +341,15 @@ pub fn judge(recording: &[u8]) -> Verdict
     let mut reader = Reader::fresh();
     let mut i: usize = 0;
     while i < recording.len() {
-        let took = reader.byte(i as u64, recording[i]);
-        let heard = took.heard;
-        match heard {
-            Heard::Bad(why, at) => {
+        let step = reader.byte(i as u64, recording[i]);
+        let outcome = step.outcome;
+        match outcome {
+            Outcome::Bad(why, at) => {
                 return Verdict::Bad(why, at);
             }
             _ => {}
         }
-        reader = took.reader;
+        reader = step.reader;
         i += 1;
     }
     reader.ended()

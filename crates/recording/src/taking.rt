@@ -1,62 +1,63 @@
 // A record taken at once, where one is due: what the step over one byte makes of its bytes, one after the other.
 ghost use mathlib.Core.Path.{_≡_};
 ghost use Prim.Native.Nat.{ℕ, _≤_, _<_};
-ghost use Rattle.recording.specs.Reading.{placeOf, numbered, requestRead};
-ghost use Rattle.recording.specs.Taking.{settled, foundAt, lastDue, sure};
+ghost use Rattle.recording.specs.Reading.{numbered, requestRead};
+ghost use Rattle.recording.specs.Taking.{settled, foundAt};
+ghost use Rattle.recording.specs.Scaffolding.{placeOf, lastDue, sure};
 ghost use Rattle.recording.specs.declared.Reader.{Reader};
-ghost use Rattle.recording.specs.declared.taking.Found.{Found};
+ghost use Rattle.recording.specs.declared.taking.NextRecord.{NextRecord};
 use crate::Fault;
-use crate::Heard;
+use crate::Outcome;
 use crate::Reader;
 use crate::Record;
 use crate::is_command;
 use crate::is_request;
 
 // What is found where a record is due: the record and how many bytes it has, or why there is none.
-pub enum Found {
+pub enum NextRecord {
     Whole(Record, usize),
     Bad(Fault),
 }
 
 // What a glance at the bytes tells: what is found, or that they are to be read one by one.
 pub(crate) enum Glance {
-    Sure(Found),
+    Sure(NextRecord),
     Longer,
 }
 
 // A record of one number, of kind 1 to 4. The values are judged as the reader judges them; by the kind itself, since the way over the reader's place is slow.
-fn single(kind: u8, n: u32, size: usize) -> Found
+fn single(kind: u8, n: u32, size: usize) -> NextRecord
     requires { ⌜ 0 < kind ⌝ }
     requires { ⌜ kind ≤ 4 ⌝ }
-    ensures { λ r. ⌜ ((reader : Reader) (rest : Found) → r ≡ settled (numbered (placeOf kind) reader n .heard) size rest) ⌝ }
+    ensures { λ r. ⌜ ((reader : Reader) (rest : NextRecord) → r ≡ settled (numbered (placeOf kind) reader n .outcome) size rest) ⌝ }
 {
     if kind == 2 {
-        return Found::Whole(Record::Tick(n), size);
+        return NextRecord::Whole(Record::Tick(n), size);
     }
     if kind == 1 {
         if 255 < n {
-            return Found::Bad(Fault::Unknown);
+            return NextRecord::Bad(Fault::Unknown);
         }
-        return Found::Whole(Record::DispenserByte(n as u8), size);
+        return NextRecord::Whole(Record::DispenserByte(n as u8), size);
     }
     if kind == 3 {
         if 255 < n {
-            return Found::Bad(Fault::Unknown);
+            return NextRecord::Bad(Fault::Unknown);
         }
-        return Found::Whole(Record::ValidatorByte(n as u8), size);
+        return NextRecord::Whole(Record::ValidatorByte(n as u8), size);
     }
     if is_command(n) {
-        return Found::Whole(Record::Command((n % 256) as u8), size);
+        return NextRecord::Whole(Record::Command((n % 256) as u8), size);
     }
-    Found::Bad(Fault::Unknown)
+    NextRecord::Bad(Fault::Unknown)
 }
 
 // A request whose three numbers have one byte each.
-fn short_request(code: u8, upper: u8, lower: u8) -> Found
-    ensures { λ r. ⌜ ((at : ℕ) (rest : Found) → r ≡ settled (requestRead (lastDue at code upper) lower .heard) 4 rest) ⌝ }
+fn short_request(code: u8, upper: u8, lower: u8) -> NextRecord
+    ensures { λ r. ⌜ ((at : ℕ) (rest : NextRecord) → r ≡ settled (requestRead (lastDue at code upper) lower .outcome) 4 rest) ⌝ }
 {
     if is_request(code as u64) {
-        return Found::Whole(
+        return NextRecord::Whole(
             Record::Request {
                 code,
                 upper: upper as u32,
@@ -65,7 +66,7 @@ fn short_request(code: u8, upper: u8, lower: u8) -> Found
             4,
         );
     }
-    Found::Bad(Fault::Unknown)
+    NextRecord::Bad(Fault::Unknown)
 }
 
 // Where four bytes stand there: a number of one or two groups, or a request with three of one group.
@@ -111,35 +112,35 @@ fn at_a_glance(recording: &[u8], at: usize) -> Glance
 }
 
 // The same by the step over one byte.
-fn byte_by_byte(recording: &[u8], at: usize) -> Found
+fn byte_by_byte(recording: &[u8], at: usize) -> NextRecord
     ensures { λ r. ⌜ r ≡ foundAt (now (recording .entry)) at ⌝ }
 {
     let mut reader = Reader::fresh();
     let mut i: usize = at;
     while i < recording.len() {
-        let took = reader.byte(i as u64, recording[i]);
+        let step = reader.byte(i as u64, recording[i]);
         i += 1;
-        let next = took.reader;
+        let next = step.reader;
         reader = next;
-        let heard = took.heard;
-        match heard {
-            Heard::More => {
+        let outcome = step.outcome;
+        match outcome {
+            Outcome::More => {
                 continue;
             }
-            Heard::Whole(x) => {
+            Outcome::Whole(x) => {
                 let size = i - at;
-                return Found::Whole(x, size);
+                return NextRecord::Whole(x, size);
             }
-            Heard::Bad(why, _) => {
-                return Found::Bad(why);
+            Outcome::Bad(why, _) => {
+                return NextRecord::Bad(why);
             }
         }
     }
-    Found::Bad(Fault::Cut)
+    NextRecord::Bad(Fault::Cut)
 }
 
 // What is found at an offset where a record is due. Where no byte is left, that is no record: 22.
-pub fn record_at(recording: &[u8], at: usize) -> Found
+pub fn record_at(recording: &[u8], at: usize) -> NextRecord
     ensures { λ r. ⌜ r ≡ foundAt (now (recording .entry)) at ⌝ }
 {
     match at_a_glance(recording, at) {

@@ -2,8 +2,8 @@
 // NAME.rec and the report NAME.report, both in data/; NAME.txt says what the recording holds and what it shows.
 use libc::STDERR_FILENO;
 use libc::STDOUT_FILENO;
-use numbers::Put;
 use recording::Verdict;
+use refusals::Put;
 
 // One byte more than a recording may have.
 const RECORDING: usize = 65_537;

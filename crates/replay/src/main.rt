@@ -3,7 +3,7 @@
 use libc::STDERR_FILENO;
 use libc::STDIN_FILENO;
 use libc::STDOUT_FILENO;
-use numbers::Put;
+use refusals::Put;
 
 // One byte more than a recording may have, so that one that is too long shows.
 const ROOM: usize = 65_537;

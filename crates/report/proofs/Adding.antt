@@ -9,13 +9,13 @@ use lib.ListN.{length, take, drop, set, getD, length-append, take-append-drop}
 use lib.Seq.{take-suc, take-suc-set, take-all, drop-set-lt, drop-drop}
 use borrow.Author.Tests.{le-ltb}
 use Rattle.numbers.specs.Decimal.{decimal}
-use Rattle.numbers.specs.Put.{over, written, writing, laid}
-use Rattle.numbers.specs.declared.Put.{Put}
-use Rattle.numbers.specs.declared.Put.the-variants.{Bytes, Refused}
-use Rattle.numbers.specs.declared.Refusal.{Refusal}
+use Rattle.refusals.specs.Put.{over, written, writing, laid}
+use Rattle.refusals.specs.declared.Put.{Put}
+use Rattle.refusals.specs.declared.Put.the-variants.{Bytes, Refused}
+use Rattle.refusals.specs.declared.Refusal.{Refusal}
 use Rattle.numbers.proofs.Decimal.{length-decimal, width-least}
-use Rattle.numbers.proofs.Writing.{take-over}
-use Rattle.report.specs.Text.{Adds}
+use Rattle.refusals.proofs.Writing.{take-over}
+use Rattle.report.specs.Scaffolding.{Adds}
 
 -- one byte more
 pub add-byte : (before text bytes : List ℕ) (at i : ℕ) → at + i < length text → i < length bytes
@@ -31,7 +31,7 @@ pub add-all : (before text bytes : List ℕ) (at i : ℕ) → i ≡ length bytes
 add-all before text bytes at i l n e =
     record { size = n; ends = ap (λ (j : ℕ). at + j) l; text = e ∙ ap (λ (y : List ℕ). take at before ++ y) (take-all i bytes (omega (arith, l))) }
 
--- one piece behind the other
+-- one piece behind the taker
 pub adds-then : {before s mid t after : List ℕ} {at e f : ℕ} → Adds before at s mid e → Adds mid e t after f → Adds before at (s ++ t) after f
 adds-then {before} {s} {mid} {t} {after} {at} {e} {f} p q =
     record {

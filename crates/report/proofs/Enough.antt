@@ -6,11 +6,12 @@ use mathlib.Core.List.{List, [], _∷_, _++_}
 use native.Mathlib.Omega.{arith}
 use lib.Dec.{ltb}
 use lib.ListN.{length, getD, set, length-append, length-set}
-use Rattle.numbers.specs.Rules.{under, same}
-use Rattle.numbers.specs.Promises.{Bytes}
-use Rattle.numbers.proofs.Rules.{by-cases}
-use Rattle.exchange_rules.specs.Machine.{Bounded}
-use Rattle.dispenser_rules.specs.Calls.{run as ran}
+use Rattle.refusals.specs.Rules.{under, same}
+use Rattle.numbers.specs.Promises.{AllBytes}
+use Rattle.refusals.proofs.Rules.{by-cases}
+use Rattle.exchange_rules.specs.Kept.{Within}
+use Rattle.ledger.specs.Calls.{run as ran}
+use Rattle.dispenser_rules.specs.Calls.{host}
 use Rattle.dispenser_rules.specs.Session.{freshSession}
 use Rattle.exchange_rules.specs.declared.notes.Sums.{Sums}
 use Rattle.dispenser_rules.specs.declared.account.Account.{Account}
@@ -19,7 +20,7 @@ use Rattle.dispenser_rules.proofs.Demand3.{never-cut}
 use Rattle.dispenser_frame.specs.declared.answer.Cassette.the-variants.{Upper, Lower}
 use Rattle.validator_rules.specs.Limits.{types}
 use Rattle.validator_rules.specs.Bills.{bills, bookedBy, plus}
-use Rattle.validator_rules.specs.Session.{freshSession as freshToo, sessionRequest as requestToo, sessionByte as byteToo, sessionTick as tickToo}
+use Rattle.validator_rules.specs.Session.{freshSession as freshTaker, sessionRequest as takerRequest, sessionByte as takerByte, sessionTick as takerTick}
 use Rattle.validator_rules.specs.declared.bills.Bills.{Bills}
 use Rattle.validator_rules.proofs.Agreeing.{kept-by-history}
 use Rattle.recording.specs.Record.{mostBytes, faultNumber, laid}
@@ -34,7 +35,7 @@ use Rattle.recording.proofs.Folds.{reading-long}
 use Rattle.report.specs.Text.{bytesOf, longest}
 use Rattle.grading.specs.Replay.{Desk, freshDesk, given, run, replayOf}
 use Rattle.report.specs.Report.{field, line, lines, paidPart, unpaidPart, sumsLine, typeLine, typeLines, goodLines, badLine, reportText, reportOf}
-use Rattle.grading.specs.Promises.{calls, callsToo, refuses, refusals}
+use Rattle.grading.specs.Promises.{calls, takerCalls, refuses, refusals}
 use Rattle.report.specs.Promises.{Enough}
 use Rattle.grading.specs.declared.desk.Findings.{Findings}
 use Rattle.report.proofs.Adding.{ten}
@@ -57,7 +58,7 @@ record Few (s : Sums) : Type 0 where
   pending : s .pending .0 < end32
   rejected : s .rejected .0 < end32
 
-bounded-few : (s : Sums) → Bounded 1_000_000 1_000_000 s → Few s
+bounded-few : (s : Sums) → Within 99 1_000_000 1_000_000 s → Few s
 bounded-few s b =
     record {
       asked = omega (arith, b .asked-most);
@@ -135,7 +136,7 @@ booked-length bs y = by (ltb y types)
     by false = refl
 
 given-bills : (d : Desk) (x : Record) → length (given d x .validator .bills) ≡ length (d .validator .bills)
-unfolding requestToo byteToo tickToo
+unfolding takerRequest takerByte takerTick
 given-bills d (Request code upper lower) = refl
 given-bills d (DispenserByte b) = refl
 given-bills d (Tick ms) = booked-length (d .validator .bills) _
@@ -148,7 +149,7 @@ bills-ran d [] = refl
 bills-ran d (x ∷ xs) = bills-ran (given d x) xs ∙ given-bills d x
 
 fresh-bills : length (freshDesk .validator .bills) ≡ 24
-unfolding freshDesk freshToo
+unfolding freshDesk freshTaker
 fresh-bills = refl
 
 -- ---- the records are no more than the bytes
@@ -169,7 +170,7 @@ refusals-most d (x ∷ xs) = omega (arith, one-most (refuses d x), refusals-most
 
 -- ---- the report of any recording
 
-good-enough : (s : List ℕ) (xs : List Record) → Bytes s → readRecording s ≡ records xs → length (reportText (replayOf s)) ≤ longest
+good-enough : (s : List ℕ) (xs : List Record) → AllBytes s → readRecording s ≡ records xs → length (reportText (replayOf s)) ≤ longest
 unfolding reportText
 good-enough s xs h e =
     let w = exactly-when .good s xs h .0 e in
@@ -179,17 +180,17 @@ good-enough s xs h e =
     let n : length xs ≤ 65_536 = omega (arith, w .0, laid-many xs, ap length (w .2)) in
     let c = session-ran xs in
     let b : (k : ℕ) → k < 24 → getD (run freshDesk xs .validator .bills) k (bills 0) .0 < end32
-    = λ k l. omega (arith, sym (ap (λ (f : Findings). getD (f .bills) k (bills 0) .0) (good-replay s xs e)) ∙ r .bills-told k l, kept-by-history .few (callsToo freshDesk xs (p .0)) k l) in
+    = λ k l. omega (arith, sym (ap (λ (f : Findings). getD (f .bills) k (bills 0) .0) (good-replay s xs e)) ∙ r .bills-told k l, kept-by-history .few (takerCalls freshDesk xs (p .0)) k l) in
     rw (good-replay s xs e)
     (good-most (run freshDesk xs .dispenser .account) (run freshDesk xs .validator .bills) (run freshDesk xs .declined) (run freshDesk xs .records)
-    (subst (λ (y : Session). Few (y .account .upper)) (sym c) (bounded-few (ran freshSession (calls freshDesk xs) .account .upper) (cut Upper)))
-    (subst (λ (y : Session). Few (y .account .lower)) (sym c) (bounded-few (ran freshSession (calls freshDesk xs) .account .lower) (cut Lower)))
+    (subst (λ (y : Session). Few (y .account .upper)) (sym c) (bounded-few (ran host freshSession (calls freshDesk xs) .account .upper) (cut Upper)))
+    (subst (λ (y : Session). Few (y .account .lower)) (sym c) (bounded-few (ran host freshSession (calls freshDesk xs) .account .lower) (cut Lower)))
     (bills-ran freshDesk xs ∙ fresh-bills)
     b
     (omega (arith, n, refusals-most freshDesk xs, sym (ap (λ (f : Findings). f .declined) (good-replay s xs e)) ∙ r .declined))
     (omega (arith, n, sym (ap (λ (f : Findings). f .records) (good-replay s xs e)) ∙ r .all)))
 
-bad-place : (s : List ℕ) (why : Fault) (at : ℕ) → Bytes s → readRecording s ≡ bad why at → at < end32
+bad-place : (s : List ℕ) (why : Fault) (at : ℕ) → AllBytes s → readRecording s ≡ bad why at → at < end32
 bad-place s why at h e =
     by-cases (under mostBytes (length s))
     (λ l. let r : bad Long 0 ≡ bad why at = sym (reading-long s l) ∙ e in let z : 0 ≡ at = cc in omega arith)
@@ -197,7 +198,7 @@ bad-place s why at h e =
     let b = exactly-when .broken s why at h (omega arith) .0 e in
     omega (arith, b .place, simp length-append at (ap length (b .are))))
 
-bad-enough : (s : List ℕ) (why : Fault) (at : ℕ) → Bytes s → readRecording s ≡ bad why at → length (reportText (replayOf s)) ≤ longest
+bad-enough : (s : List ℕ) (why : Fault) (at : ℕ) → AllBytes s → readRecording s ≡ bad why at → length (reportText (replayOf s)) ≤ longest
 unfolding reportText replayOf
 bad-enough s why at h e = rw e (bad-most why at (bad-place s why at h e))
 

@@ -1,4 +1,4 @@
--- The lines of a report, one behind the other. Assumes nothing.
+-- The lines of a report, one behind the taker. Assumes nothing.
 use Prim.Native.Nat.{ℕ, suc, _+_, _≤_, _<_}
 use mathlib.Core.Path.{_≡_, refl, sym, ap, _∙_, subst}
 use mathlib.Core.List.{List, [], _∷_, _++_, append-assoc, append-nil}
@@ -9,7 +9,7 @@ use lib.Seq.{take-suc, take-all}
 use borrow.Author.Tests.{eq-eqb, ne-eqb}
 use Rattle.numbers.specs.Decimal.{decimal}
 use Rattle.numbers.proofs.Decimal.{length-decimal, width-least}
-use Rattle.report.specs.Text.{Adds}
+use Rattle.report.specs.Scaffolding.{Adds}
 use Rattle.report.specs.Report.{field, line, lines, typeLine, typeLines}
 use Rattle.validator_rules.specs.declared.bills.Bills.{Bills}
 use Rattle.report.proofs.Adding.{adds-then, adds-none}

@@ -4,8 +4,8 @@ use Prim.Native.Nat.{ℕ}
 use mathlib.Core.Path.{ap}
 use mathlib.Core.List.{List}
 use denote.Ref.{now}
-use Rattle.numbers.specs.declared.Put.{Put}
-use Rattle.numbers.proofs.Tied.{Tied, tied}
+use Rattle.refusals.specs.declared.Put.{Put}
+use Rattle.refusals.proofs.Tied.{Tied, tied}
 use Rattle.report.proofs.write_report.Kinds as write-report
 use Rattle.report.proofs.write_report.Reads as write-report-reads
 use Rattle.report.proofs.report.Kinds as report

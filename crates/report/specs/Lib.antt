@@ -1,4 +1,5 @@
 -- What the contracts of `report` cite.
 pub mod Text
 pub mod Report
+pub mod Scaffolding
 pub mod Promises

@@ -2,10 +2,10 @@
 use Prim.Native.Nat.{ℕ, _≤_}
 use mathlib.Core.List.{List}
 use lib.ListN.{length}
-use Rattle.numbers.specs.Promises.{Bytes}
+use Rattle.numbers.specs.Promises.{AllBytes}
 use Rattle.report.specs.Text.{longest}
 use Rattle.report.specs.Report.{reportOf}
 
 -- a room of so many bytes is enough for the report of any recording
 abbrev pub Enough : Type 0
-Enough = (s : List ℕ) → Bytes s → length (reportOf s) ≤ longest
+Enough = (s : List ℕ) → AllBytes s → length (reportOf s) ≤ longest

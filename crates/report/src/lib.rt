@@ -5,18 +5,19 @@ ghost use mathlib.Core.List.{_++_};
 ghost use Prim.Native.Nat.{_+_, _≤_};
 ghost use lib.ListN.{length};
 ghost use Rattle.numbers.specs.Decimal.{decimal};
-ghost use Rattle.numbers.specs.Put.{written, writing};
-ghost use Rattle.report.specs.Text.{longest, Adds};
+ghost use Rattle.refusals.specs.Put.{written, writing};
+ghost use Rattle.report.specs.Text.{longest};
+ghost use Rattle.report.specs.Scaffolding.{Adds};
 ghost use Rattle.report.specs.Report.{line, lines, paidPart, unpaidPart, sumsLine, typeLine, typeLines, goodLines, badLine, reportText, reportOf};
 use dispenser_rules::Account;
 use exchange_rules::Sums;
 use grading::Ending;
 use grading::Findings;
 use grading::replay;
-use numbers::Put;
-use numbers::Refusal;
 use numbers::write_decimal;
 use recording::Fault;
+use refusals::Put;
+use refusals::Refusal;
 use validator_rules::Bills;
 
 // No report is longer: two lines of 146 bytes for the cassettes, 20 for those declined, 25 for each of 24 types, and 19 for the records.
@@ -42,7 +43,7 @@ fn put_number(n: u32, text: &mut [u8], at: usize) -> usize
     ensures { λ r. ⌜ r ≤ at + 10 ⌝ }
 {
     let mut digits = [0u8; 10];
-    match write_decimal(n, &mut digits) {
+    match write_decimal(n as u64, &mut digits) {
         Put::Bytes(k) => put(&digits[0..k], text, at),
         Put::Refused(_) => at,
     }

@@ -4,7 +4,7 @@ ghost use mathlib.Core.Path.{_≡_};
 ghost use Prim.Native.Nat.{_≤_};
 ghost use lib.ListN.{length};
 use crate::print;
-use numbers::Put;
+use refusals::Put;
 
 const FILL: u8 = 0xA5;
 

@@ -4,7 +4,7 @@ use Prim.Native.Nat.{ℕ, _<_}
 use mathlib.Core.Path.{_≡_, refl}
 use mathlib.Core.List.{List}
 use denote.Ref.{now}
-use Rattle.numbers.proofs.Tied.{Is}
+use Rattle.refusals.proofs.Tied.{Is}
 use Rattle.validator_rules.specs.Bills.{bookedBy}
 use Rattle.validator_rules.specs.Session.{stepAfter, lentAfter, after, requestStep, byteStep, tickStep, freshSession, sessionByte}
 use Rattle.validator_rules.specs.Calls.{request, byte, tick, called}

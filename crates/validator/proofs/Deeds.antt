@@ -1,4 +1,4 @@
--- What a byte or an answer leads to, where the code has one branch for several cases. Assumes nothing.
+-- What an answer leads to, where the code has one branch for several classes. Assumes nothing.
 use Prim.Native.Nat.{ℕ}
 use mathlib.Core.Path.{_≡_, refl}
 use mathlib.Core.List.{List, [], _∷_}
@@ -7,20 +7,8 @@ use types.Run.{OneOf, miss}
 use Rattle.ccnet_frame.specs.declared.class.Class.{Class}
 use Rattle.ccnet_frame.specs.declared.class.Class.the-variants.{Ack, Nak, Illegal, State, Busy, Rejecting, Failing, Escrow, Stacked, Returned, Unknown}
 use Rattle.ccnet_frame.proofs.class.Class.{the-type as class-type}
-use Rattle.validator_rules.specs.Session.{acted, byteActed, classStep, answeredStep}
+use Rattle.validator_rules.specs.Session.{classStep, answeredStep}
 use Rattle.validator_rules.specs.declared.line.Line.{Line}
-use Rattle.validator_rules.specs.declared.line.Todo.{Todo}
-use Rattle.validator_rules.specs.declared.line.Todo.the-variants.{Nothing, Keep, Judge, Damage, Silence}
-use Rattle.validator_rules.proofs.line.Todo.{the-type}
-
--- every deed but keeping and judging is the same for a byte
-pub other-deed : (t : Todo) → OneOf (0 ∷ 3 ∷ 4 ∷ []) (tagOf the-type t) → (l : Line) (want : ℕ) (store : List ℕ) (at b : ℕ) (r : List ℕ)
-    → byteActed t l want store at b r ≡ acted t l store r
-other-deed Nothing h l want store at b r = refl
-other-deed Keep h l want store at b r = absurd (miss (0 ∷ 3 ∷ 4 ∷ []) 1 tt h)
-other-deed Judge h l want store at b r = absurd (miss (0 ∷ 3 ∷ 4 ∷ []) 2 tt h)
-other-deed Damage h l want store at b r = refl
-other-deed Silence h l want store at b r = refl
 
 -- every class but ACK, NAK and illegal is answered by ACK
 pub other-class : (c : Class) → OneOf (3 ∷ 4 ∷ 5 ∷ 6 ∷ 7 ∷ 8 ∷ 9 ∷ 10 ∷ []) (tagOf class-type c) → (l : Line) (r : List ℕ)

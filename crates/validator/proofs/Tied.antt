@@ -4,7 +4,7 @@ use Prim.Native.Nat.{ℕ}
 use mathlib.Core.Path.{ap}
 use mathlib.Core.List.{List}
 use denote.Ref.{now}
-use Rattle.numbers.proofs.Tied.{Tied, tied}
+use Rattle.refusals.proofs.Tied.{Tied, tied}
 use Rattle.validator_rules.specs.declared.session.Step.{Step}
 use Rattle.validator_rules.specs.declared.session.Outcome.{Outcome}
 use Rattle.validator_rules.proofs.session.Session.fresh.Kinds as fresh

@@ -1,6 +1,8 @@
 // The line's discipline: waits, gathering, and when a frame is to be judged. It counts no bills; it carries the type that was last reported.
 ghost use mathlib.Core.Path.{_≡_};
-ghost use Rattle.validator_rules.specs.Line.{opened, closed, remembers, inside, waits, isOpen, startByte, addressByte, lengthByte, furtherByte, gathered, heard, expired, passed};
+ghost use Rattle.validator_rules.specs.Line.{opened, closed, remembers, inside, waits, isOpen, startByte, addressByte, lengthByte, furtherByte, answerByte, heard, expired, passed};
+use validator_rules::Heard;
+use validator_rules::Hearing;
 use validator_rules::Line;
 use validator_rules::Phase;
 use validator_rules::Session;
@@ -27,8 +29,8 @@ pub(crate) fn opened(line: Line, code: u64, accepted: u64) -> Line
         accepted,
         code,
         last: line.last,
-        got: 0,
-        want: 0,
+        gathered: 0,
+        length: 0,
         phase: Phase::Start,
     }
 }
@@ -42,8 +44,8 @@ fn closed(line: Line) -> Line
         accepted: line.accepted,
         code: line.code,
         last: line.last,
-        got: 0,
-        want: 0,
+        gathered: 0,
+        length: 0,
         phase: Phase::Idle,
     }
 }
@@ -58,23 +60,23 @@ pub(crate) fn remembers(line: Line, last: usize) -> Line
         accepted: line.accepted,
         code: line.code,
         last,
-        got: line.got,
-        want: line.want,
+        gathered: line.gathered,
+        length: line.length,
         phase: p,
     }
 }
 
 // Inside an answer, with so many bytes gathered of so many.
-fn inside(line: Line, left: u64, got: usize, want: usize) -> Line
-    ensures { λ r. ⌜ r ≡ inside line left got want ⌝ }
+fn inside(line: Line, left: u64, gathered: usize, length: usize) -> Line
+    ensures { λ r. ⌜ r ≡ inside line left gathered length ⌝ }
 {
     Line {
         left,
         accepted: line.accepted,
         code: line.code,
         last: line.last,
-        got,
-        want,
+        gathered,
+        length,
         phase: Phase::Inside,
     }
 }
@@ -89,120 +91,120 @@ fn waits(line: Line, left: u64) -> Line
         accepted: line.accepted,
         code: line.code,
         last: line.last,
-        got: line.got,
-        want: line.want,
+        gathered: line.gathered,
+        length: line.length,
         phase: p,
     }
 }
 
 // Waiting for an answer: bytes before 02h are skipped and do not restart the wait.
-fn start(line: Line, b: u8) -> Turn
+fn start_byte(line: Line, b: u8) -> Hearing
     ensures { λ r. ⌜ r ≡ startByte line b ⌝ }
 {
     if b == 0x02 {
         let next = inside(line, Session::FRAME, 1, Session::STORE);
-        return Turn {
+        return Hearing {
             line: next,
-            todo: Todo::Keep,
+            heard: Heard::Keep,
         };
     }
     let next = waits(line, line.left);
-    Turn {
+    Hearing {
         line: next,
-        todo: Todo::Nothing,
+        heard: Heard::Skip,
     }
 }
 
 // The address of an answer.
-fn address(line: Line, b: u8) -> Turn
+fn address_byte(line: Line, b: u8) -> Hearing
     ensures { λ r. ⌜ r ≡ addressByte line b ⌝ }
 {
     if b == 0x03 {
-        let next = inside(line, line.left, 2, line.want);
-        return Turn {
+        let next = inside(line, line.left, 2, line.length);
+        return Hearing {
             line: next,
-            todo: Todo::Keep,
+            heard: Heard::Keep,
         };
     }
     let next = closed(line);
-    Turn {
+    Hearing {
         line: next,
-        todo: Todo::Damage,
+        heard: Heard::Wrong,
     }
 }
 
 // The length byte of an answer.
-fn length(line: Line, b: u8) -> Turn
+fn length_byte(line: Line, b: u8) -> Hearing
     ensures { λ r. ⌜ r ≡ lengthByte line b ⌝ }
 {
     if b < 6 {
         let next = closed(line);
-        return Turn {
+        return Hearing {
             line: next,
-            todo: Todo::Damage,
+            heard: Heard::Wrong,
         };
     }
     let next = inside(line, line.left, 3, b as usize);
-    Turn {
+    Hearing {
         line: next,
-        todo: Todo::Keep,
+        heard: Heard::Keep,
     }
 }
 
 // A byte of an answer past its length byte.
-fn further(line: Line) -> Turn
+fn further_byte(line: Line) -> Hearing
     ensures { λ r. ⌜ r ≡ furtherByte line ⌝ }
 {
-    if line.got < line.want {
-        let n = line.got + 1;
-        if n < line.want {
-            let next = inside(line, line.left, n, line.want);
-            return Turn {
+    if line.gathered < line.length {
+        let n = line.gathered + 1;
+        if n < line.length {
+            let next = inside(line, line.left, n, line.length);
+            return Hearing {
                 line: next,
-                todo: Todo::Keep,
+                heard: Heard::Keep,
             };
         }
         let next = closed(line);
-        return Turn {
+        return Hearing {
             line: next,
-            todo: Todo::Judge,
+            heard: Heard::Judge,
         };
     }
     let next = closed(line);
-    Turn {
+    Hearing {
         line: next,
-        todo: Todo::Judge,
+        heard: Heard::Judge,
     }
 }
 
 // Inside an answer: its address and its length are judged at their byte.
-fn gather(line: Line, b: u8) -> Turn
-    ensures { λ r. ⌜ r ≡ gathered line b ⌝ }
+fn answer_byte(line: Line, b: u8) -> Hearing
+    ensures { λ r. ⌜ r ≡ answerByte line b ⌝ }
 {
-    if line.got == 1 {
-        return address(line, b);
+    if line.gathered == 1 {
+        return address_byte(line, b);
     }
-    if line.got == 2 {
-        return length(line, b);
+    if line.gathered == 2 {
+        return length_byte(line, b);
     }
-    further(line)
+    further_byte(line)
 }
 
 // A byte arrives.
-pub(crate) fn heard(line: Line, b: u8) -> Turn
+pub(crate) fn heard(line: Line, b: u8) -> Hearing
     ensures { λ r. ⌜ r ≡ heard line b ⌝ }
 {
     let p = line.phase;
     match p {
         Phase::Idle => {
             let next = waits(line, Session::QUIET);
-            Turn {
+            Hearing {
                 line: next,
-                todo: Todo::Nothing,
+                heard: Heard::Skip,
             }
         }
-        Phase::Start => start(line, b),
-        Phase::Inside => gather(line, b),
+        Phase::Start => start_byte(line, b),
+        Phase::Inside => answer_byte(line, b),
     }
 }
 
@@ -223,14 +225,14 @@ fn expired(line: Line) -> Turn
             let next = closed(line);
             Turn {
                 line: next,
-                todo: Todo::Silence,
+                todo: Todo::CloseSilent,
             }
         }
         Phase::Inside => {
             let next = closed(line);
             Turn {
                 line: next,
-                todo: Todo::Damage,
+                todo: Todo::CloseDamaged,
             }
         }
     }

@@ -18,10 +18,11 @@ use ccnet_frame::classify;
 use ccnet_frame::write_ack;
 use ccnet_frame::write_command;
 use ccnet_frame::write_nak;
-use ledger::Declined;
-use numbers::Put;
+use refusals::Declined;
+use refusals::Put;
 use validator_rules::Closing;
 use validator_rules::Found;
+use validator_rules::Heard;
 use validator_rules::Line;
 use validator_rules::Outcome;
 use validator_rules::Reply;
@@ -90,7 +91,7 @@ fn not_done(line: Line, why: Declined) -> Step
     Step {
         line,
         bill: Session::TYPES,
-        reply: Reply::Refused(why),
+        reply: Reply::NotDone(why),
     }
 }
 
@@ -227,15 +228,16 @@ fn memory(code: u64, last: usize, class: Class) -> usize
     last
 }
 
-// An answer: ACK, and the command is closed.
+// An answer: ACK, and the command is closed. What it says is told while its body still stands in the store.
 fn answered(line: Line, class: Class, store: &mut [u8; 255], room: &mut [u8]) -> Step
     requires { ⌜ 255 ≤ length (now room) ⌝ }
     ensures { λ r. ⌜ lentAfter r (now (store .exit)) (now (room .exit)) ≡ answeredStep line class (now (room .entry)) ⌝ }
 {
+    let bill = credit(line.code, line.last, class);
+    let last = memory(line.code, line.last, class);
     clear(store);
     let n = send_ack(room);
-    let bill = credit(line.code, line.last, class);
-    let next = remembers(line, memory(line.code, line.last, class));
+    let next = remembers(line, last);
     Step {
         line: next,
         bill,
@@ -253,8 +255,8 @@ fn said(line: Line, class: Class, store: &mut [u8; 255], room: &mut [u8]) -> Ste
 {
     match class {
         Class::Ack => close(line, store, Closing::Acknowledged),
-        Class::Nak => close(line, store, Closing::Refused),
-        Class::Illegal => close(line, store, Closing::Illegal),
+        Class::Nak => close(line, store, Closing::NotAcknowledged),
+        Class::Illegal => close(line, store, Closing::IllegalCommand),
         _ => answered(line, class, store, room),
     }
 }
@@ -271,37 +273,35 @@ fn read(frame: &[u8]) -> Found
 }
 
 // What the gathered frame is found to be; no more than the store holds.
-fn gathered(store: &[u8], want: usize) -> Found
-    ensures { λ r. ⌜ r ≡ found (take want (now (store .entry))) ⌝ }
+fn gathered(store: &[u8], size: usize) -> Found
+    ensures { λ r. ⌜ r ≡ found (take size (now (store .entry))) ⌝ }
 {
-    if want <= store.len() {
-        return read(&store[..want]);
+    if size <= store.len() {
+        return read(&store[..size]);
     }
     read(store)
 }
 
 // Judges the frame, which is full.
-fn judge(line: Line, want: usize, store: &mut [u8; 255], room: &mut [u8]) -> Step
+fn judge(line: Line, size: usize, store: &mut [u8; 255], room: &mut [u8]) -> Step
     requires { ⌜ 255 ≤ length (now room) ⌝ }
-    ensures { λ r. ⌜ lentAfter r (now (store .exit)) (now (room .exit)) ≡ judgeStep line want (now (store .entry)) (now (room .entry)) ⌝ }
+    ensures { λ r. ⌜ lentAfter r (now (store .exit)) (now (room .exit)) ≡ judgeStep line size (now (store .entry)) (now (room .entry)) ⌝ }
 {
-    match gathered(store, want) {
+    match gathered(store, size) {
         Found::Bad => damaged(line, store, room),
         Found::Good(class) => said(line, class, store, room),
     }
 }
 
-// Does what the line says, but for bytes of an answer.
+// Does what is to be done when time has passed.
 fn act(line: Line, todo: Todo, store: &mut [u8; 255], room: &mut [u8]) -> Step
     requires { ⌜ 255 ≤ length (now room) ⌝ }
     ensures { λ r. ⌜ lentAfter r (now (store .exit)) (now (room .exit)) ≡ acted todo line (now (store .entry)) (now (room .entry)) ⌝ }
 {
     match todo {
         Todo::Nothing => done(line, 0, Closing::Nothing),
-        Todo::Keep => done(line, 0, Closing::Nothing),
-        Todo::Judge => done(line, 0, Closing::Nothing),
-        Todo::Damage => damaged(line, store, room),
-        Todo::Silence => close(line, store, Closing::Silent),
+        Todo::CloseDamaged => damaged(line, store, room),
+        Todo::CloseSilent => close(line, store, Closing::Silent),
     }
 }
 
@@ -312,21 +312,22 @@ pub fn step_byte(line: Line, store: &mut [u8; 255], b: u8, room: &mut [u8]) -> S
     if room.len() < Session::ROOM {
         return not_done(line, Declined::Room);
     }
-    let at = line.got;
-    let want = line.want;
-    let turn = heard(line, b);
-    let next = turn.line;
-    let todo = turn.todo;
-    match todo {
-        Todo::Keep => {
+    let at = line.gathered;
+    let length = line.length;
+    let hearing = heard(line, b);
+    let next = hearing.line;
+    let heard = hearing.heard;
+    match heard {
+        Heard::Skip => done(next, 0, Closing::Nothing),
+        Heard::Keep => {
             keep(store, at, b);
             done(next, 0, Closing::Nothing)
         }
-        Todo::Judge => {
+        Heard::Judge => {
             keep(store, at, b);
-            judge(next, want, store, room)
+            judge(next, length, store, room)
         }
-        _ => act(next, todo, store, room),
+        Heard::Wrong => damaged(next, store, room),
     }
 }
 

@@ -8,11 +8,11 @@ use lib.Dec.{eqb, lit≤}
 use lib.ListN.{length, getD, set, take, replicate, length-append, length-replicate, getD-replicate, List·getD-append}
 use lib.Seq.{take-at, getD-at}
 use borrow.Author.Tests.{lt-ltb}
-use Rattle.numbers.specs.Rules.{under, within, same}
-use Rattle.numbers.specs.Promises.{Bytes}
-use Rattle.numbers.specs.Put.{over}
-use Rattle.numbers.proofs.Rules.{holds-true, fails-false, by-cases, cond-true, cond-false, pick, either-way, Alike}
-use Rattle.numbers.proofs.Writing.{take-over}
+use Rattle.refusals.specs.Rules.{under, within, same}
+use Rattle.numbers.specs.Promises.{AllBytes}
+use Rattle.refusals.specs.Put.{over}
+use Rattle.refusals.proofs.Rules.{holds-true, fails-false, by-cases, cond-true, cond-false, pick, either-way, Alike}
+use Rattle.refusals.proofs.Writing.{take-over}
 use Rattle.ccnet_frame.specs.Frame.{closed as with-check, frame, judgeFrame, bodyOf}
 use Rattle.ccnet_frame.specs.Class.{classOf, classBytes, isNamed}
 use Rattle.ccnet_frame.specs.declared.frame.Judged.{Judged}
@@ -21,21 +21,24 @@ use Rattle.ccnet_frame.specs.declared.class.Class.{Class}
 use Rattle.ccnet_frame.specs.declared.class.Class.the-variants.{Ack, Nak, Illegal, State, Busy, Rejecting, Failing, Escrow, Stacked, Returned, Unknown}
 use Rattle.ccnet_frame.proofs.Frames.{frame-length, frame-judged, good-long, good-most, good-size, good-frame}
 use Rattle.ccnet_frame.proofs.Classes.{classes}
-use Rattle.ledger.specs.Events.{Deed, asks, hears, waits, goes-on, closes, Event, declined, done, isFrame, since}
-use Rattle.ledger.specs.Line.{isOpen, quietTime, accepted}
+use Rattle.ledger.specs.Events.{Deed, asks, hears, waits, goes-on, closes, declined, done, isFrame, since}
+use Rattle.ledger.specs.Line.{isOpen, quietTime, ofNewest, accepted}
+use Rattle.ledger.specs.Calls.{told, seen, run, historyFrom}
 use Rattle.ledger.proofs.Declining.{given-alike}
 use Rattle.validator_rules.specs.Limits.{quiet, frameWait, storeSize, commandLimit, types}
-use Rattle.validator_rules.specs.Line.{isOpen as openIn, opened, closed, remembers, inside, waits as still, startByte, addressByte, lengthByte, furtherByte, gathered, heardIn, heard, expiredIn, expired, passed}
+use Rattle.validator_rules.specs.Line.{hearing, isOpen as openIn, opened, closed, remembers, inside, waits as still, startByte, addressByte, lengthByte, furtherByte, answerByte, heardIn, heard, expiredIn, expired, passed}
 use Rattle.validator_rules.specs.Bills.{bills, bookedBy, poll, remembered}
 use Rattle.validator_rules.specs.Session.{LentAfter, StepAfter, stepAfter, refusedStep, lentAfter, afterStep, zeros, damagedStep, answeredStep, classStep, foundIn, found, judgedStep, judgeStep, acted, byteActed, byteRefusals, tickRefusals, requestRefusals, byteStep, tickStep, requestStep, freshSession, sessionRequest, sessionByte, sessionTick}
-use Rattle.validator_rules.specs.History.{Request, Ending, acknowledged, refused, illegal, answered, damaged, silent, Past, lastCode, fromStart, between, pollBody, reported, counted, gathered as so-far, told, seen, historyFrom, history, Carries, Other, Says, Truly, KeptByHistory, historyRefusals, DeclinesByHistory}
-use Rattle.validator_rules.specs.Calls.{Call, request, byte, tick, called, run}
+use Rattle.validator_rules.specs.History.{lastCode, fromStart, between, answerTo, reported, counted, gathered as so-far, Carries, Other, Says, Truly, KeptByHistory, historyRefusals, DeclinesByHistory}
+use Rattle.validator_rules.specs.Calls.{Call, request, byte, tick, Request, Own, Ending, acknowledged, not-acknowledged, illegal-command, answered, damaged, silent, Known, Past, ending, returned, host, history}
 use Rattle.validator_rules.specs.declared.bills.Bills.{Bills}
 use Rattle.validator_rules.specs.declared.line.Phase.{Phase}
 use Rattle.validator_rules.specs.declared.line.Phase.the-variants.{Idle, Start, Inside}
 use Rattle.validator_rules.specs.declared.line.Line.{Line}
-use Rattle.validator_rules.specs.declared.line.Todo.the-variants.{Nothing, Keep, Silence}
+use Rattle.validator_rules.specs.declared.line.Todo.the-variants.{Nothing, CloseSilent}
+use Rattle.validator_rules.specs.declared.line.Heard.the-variants.{Skip, Keep}
 use Rattle.validator_rules.specs.declared.line.Turn.{Turn}
+use Rattle.validator_rules.specs.declared.line.Hearing.{Hearing}
 use Rattle.validator_rules.specs.declared.session.Session.{Session}
 use Rattle.validator_rules.proofs.Past.{start-next, start-more, store-more, bytes-more, nothing-counted, counted-most}
 use Rattle.validator_rules.proofs.Exact.{exactly-when}
@@ -55,21 +58,21 @@ record Awaiting (l : Line) (store : List ℕ) (h : Past) : Type 0 where
   live : isOpen h ≡ true
   none : fromStart (since h) ≡ []
   clean : store ≡ zeros
-  nothing : l .got ≡ 0
+  nothing : l .gathered ≡ 0
   bound : Fewer h
 
 -- inside an answer: the store holds what has come since 02h, and then zeros
 record Gathering (l : Line) (store : List ℕ) (h : Past) : Type 0 where
   live : isOpen h ≡ true
-  size : length (fromStart (since h)) ≡ l .got
-  filled : store ≡ fromStart (since h) ++ replicate (storeSize - l .got) 0
-  least : 1 ≤ l .got
-  less : l .got < l .want
-  most : l .want ≤ storeSize
-  untold : l .got ≤ 2 → l .want ≡ storeSize
-  named : 2 ≤ l .got → getD (fromStart (since h)) 1 0 ≡ 0x03
-  sized : 3 ≤ l .got → getD (fromStart (since h)) 2 0 ≡ l .want
-  bytes : Bytes (fromStart (since h))
+  size : length (fromStart (since h)) ≡ l .gathered
+  filled : store ≡ fromStart (since h) ++ replicate (storeSize - l .gathered) 0
+  least : 1 ≤ l .gathered
+  less : l .gathered < l .length
+  most : l .length ≤ storeSize
+  untold : l .gathered ≤ 2 → l .length ≡ storeSize
+  named : 2 ≤ l .gathered → getD (fromStart (since h)) 1 0 ≡ 0x03
+  sized : 3 ≤ l .gathered → getD (fromStart (since h)) 2 0 ≡ l .length
+  bytes : AllBytes (fromStart (since h))
   bound : Fewer h
 
 abbrev Stands : Phase → Line → List ℕ → Past → Type 0
@@ -85,7 +88,7 @@ record Agrees (s : Session) (h : Past) : Type 0 where
 -- ---- a call that goes on, and one that closes
 
 -- a call that completed nothing leaves the bounds
-module _ (e : Event Request Ending) (h : Past) (none : pollBody e h ≡ []) (ea : accepted (e ∷ h) ≡ accepted h) where
+module _ (e : Known) (h : Past) (none : answerTo poll e h ≡ []) (ea : accepted (e ∷ h) ≡ accepted h) where
   fewer-still : Fewer h → Fewer (e ∷ h)
   fewer-still f y small = omega (arith, nothing-counted y e h none, ea, f y small)
 
@@ -93,21 +96,21 @@ module _ (e : Event Request Ending) (h : Past) (none : pollBody e h ≡ []) (ea 
   few-still f y small = omega (arith, nothing-counted y e h none, ea, f y small)
 
 -- a call that closed the command
-record Ends (e : Event Request Ending) (h : Past) : Type 0 where
+record Ends (e : Known) (h : Past) : Type 0 where
   shut : isOpen (e ∷ h) ≡ false
   quieted : quietTime (e ∷ h) ≡ 0
   as-many : accepted (e ∷ h) ≡ accepted h
   as-coded : lastCode (e ∷ h) ≡ lastCode h
 
 heard-ends : (h : Past) (b : ℕ) (put : List ℕ) (k : Ending) → Ends (done (hears b) put (closes k)) h
-unfolding isOpen quietTime accepted lastCode
+unfolding isOpen quietTime accepted ofNewest
 heard-ends h b put k = record { shut = refl; quieted = refl; as-many = refl; as-coded = refl }
 
 waited-ends : (h : Past) (ms : ℕ) (put : List ℕ) (k : Ending) → Ends (done (waits ms) put (closes k)) h
-unfolding isOpen quietTime accepted lastCode
+unfolding isOpen quietTime accepted ofNewest
 waited-ends h ms put k = record { shut = refl; quieted = refl; as-many = refl; as-coded = refl }
 
-module _ (l : Line) (bs : List Bills) (h : Past) (base : Base l bs h) (fewer : Fewer h) (e : Event Request Ending) (ends : Ends e h) where
+module _ (l : Line) (bs : List Bills) (h : Past) (base : Base l bs h) (fewer : Fewer h) (e : Known) (ends : Ends e h) where
   -- the line rests, whatever is remembered
   rests : (m : Line) → m .left ≡ quiet → Resting m zeros (e ∷ h)
   rests m ml =
@@ -118,7 +121,7 @@ module _ (l : Line) (bs : List Bills) (h : Past) (base : Base l bs h) (fewer : F
         bound = λ y small. omega (arith, counted-most y e h, fewer y small, ends .as-many);
       }
 
-  closes-agrees : pollBody e h ≡ [] → Truly (e ∷ h) → Agrees (record { line = closed l; bills = bs; store = zeros }) (e ∷ h)
+  closes-agrees : answerTo poll e h ≡ [] → Truly (e ∷ h) → Agrees (record { line = closed l; bills = bs; store = zeros }) (e ∷ h)
   closes-agrees none truly =
       record {
         base = same-base l (closed l) bs h base refl refl refl e none (ends .as-many) (ends .as-coded);
@@ -187,8 +190,8 @@ replied-no body gets c listed none is =
 -- ---- what is left by a step
 
 -- the session agrees after a step that answers a byte or a tick
-abbrev Next : Session → Past → Deed Request → LentAfter → Type 0
-Next s h d w = Agrees (afterStep s w .session) (told d (w .step .reply) (w .room) ∷ h)
+abbrev Next : Session → Past → Deed Request Own → LentAfter → Type 0
+Next s h d w = Agrees (afterStep s w .session) (told ending d (returned (w .step .reply)) (w .room) ∷ h)
 
 module _ (s : Session) (h : Past) (k : Agrees s h) where
   abbrev l : Line
@@ -205,7 +208,7 @@ module _ (s : Session) (h : Past) (k : Agrees s h) where
     unfolding damagedStep bookedBy Truly
     waited-damaged ms some = closes-agrees l (s .bills) h (k .base) fewer _ (waited-ends h ms _ damaged) refl ((live, some), k .truly)
 
-    waited-silent : (ms : ℕ) → fromStart (since h) ≡ [] → Next s h (waits ms) (acted Silence (closed l) (s .store) r)
+    waited-silent : (ms : ℕ) → fromStart (since h) ≡ [] → Next s h (waits ms) (acted CloseSilent (closed l) (s .store) r)
     unfolding bookedBy Truly
     waited-silent ms none = closes-agrees l (s .bills) h (k .base) fewer _ (waited-ends h ms _ silent) refl ((live, none), k .truly)
 
@@ -215,7 +218,7 @@ module _ (s : Session) (h : Past) (k : Agrees s h) where
       heard-answered : replied (classOf body) ≡ true → Next s h (hears b) (answeredStep (closed l) (classOf body) r)
       unfolding answeredStep Truly
       heard-answered gets =
-          let e = told (hears b) (answeredStep (closed l) (classOf body) r .step .reply) (answeredStep (closed l) (classOf body) r .room) in
+          let e = told ending (hears b) (returned (answeredStep (closed l) (classOf body) r .step .reply)) (answeredStep (closed l) (classOf body) r .room) in
           let ends = heard-ends h b _ answered in
           let m = remembers (closed l) (remembered (l .code) (l .last) (classOf body)) in
           record {
@@ -244,9 +247,9 @@ module _ (s : Session) (h : Past) (k : Agrees s h) where
       heard-class Ack e =
           closes-agrees l (s .bills) h (k .base) fewer _ (heard-ends h b _ acknowledged) refl ((live, heard-says Ack e (λ u. let z : _≡_ {A = ℕ} 0 1 = cc in omega arith)), k .truly)
       heard-class Nak e =
-          closes-agrees l (s .bills) h (k .base) fewer _ (heard-ends h b _ refused) refl ((live, heard-says Nak e (λ u. let z : _≡_ {A = ℕ} 0 1 = cc in omega arith)), k .truly)
+          closes-agrees l (s .bills) h (k .base) fewer _ (heard-ends h b _ not-acknowledged) refl ((live, heard-says Nak e (λ u. let z : _≡_ {A = ℕ} 0 1 = cc in omega arith)), k .truly)
       heard-class Illegal e =
-          closes-agrees l (s .bills) h (k .base) fewer _ (heard-ends h b _ illegal) refl ((live, heard-says Illegal e (λ u. let z : _≡_ {A = ℕ} 0 1 = cc in omega arith)), k .truly)
+          closes-agrees l (s .bills) h (k .base) fewer _ (heard-ends h b _ illegal-command) refl ((live, heard-says Illegal e (λ u. let z : _≡_ {A = ℕ} 0 1 = cc in omega arith)), k .truly)
       heard-class (State x) e = subst (λ (c : Class). Next s h (hears b) (answeredStep (closed l) c r)) (sym e) (heard-answered (ap replied (sym e)))
       heard-class (Busy x) e = subst (λ (c : Class). Next s h (hears b) (answeredStep (closed l) c r)) (sym e) (heard-answered (ap replied (sym e)))
       heard-class (Rejecting x) e = subst (λ (c : Class). Next s h (hears b) (answeredStep (closed l) c r)) (sym e) (heard-answered (ap replied (sym e)))
@@ -257,7 +260,7 @@ module _ (s : Session) (h : Past) (k : Agrees s h) where
       heard-class Unknown e = subst (λ (c : Class). Next s h (hears b) (answeredStep (closed l) c r)) (sym e) (heard-answered (ap replied (sym e)))
 
     -- a full frame, good or bad
-    heard-full : (b : ℕ) (f : List ℕ) → f ≡ fromStart (since h ++ (b ∷ [])) → getD f 1 0 ≡ 0x03 → Bytes f
+    heard-full : (b : ℕ) (f : List ℕ) → f ≡ fromStart (since h ++ (b ∷ [])) → getD f 1 0 ≡ 0x03 → AllBytes f
         → 3 ≤ length f → getD f 2 0 ≡ length f → Next s h (hears b) (judgedStep (found f) (closed l) r)
     unfolding found between
     heard-full b f is named bytes long sized = by (judgeFrame f) refl
@@ -281,11 +284,11 @@ module _ (s : Session) (h : Past) (k : Agrees s h) where
 
   module _ (b : ℕ) (small : b < 256) where
     -- the call, as a caller knows it
-    abbrev came : Event Request Ending
+    abbrev came : Known
     came = done (hears b) [] goes-on
 
     came-base : (m : Line) → m .accepted ≡ l .accepted → m .code ≡ l .code → m .last ≡ l .last → Base m (s .bills) (came ∷ h)
-    unfolding accepted lastCode
+    unfolding accepted ofNewest
     came-base m ma mc ml = same-base l m (s .bills) h (k .base) ma mc ml came refl refl refl
 
     came-open : isOpen (came ∷ h) ≡ isOpen h
@@ -323,7 +326,7 @@ module _ (s : Session) (h : Past) (k : Agrees s h) where
 
     -- 02h
     came-started : Awaiting l (s .store) h → b ≡ 0x02
-        → Gathering (inside l frameWait 1 storeSize) (set (s .store) (l .got) b) (came ∷ h)
+        → Gathering (inside l frameWait 1 storeSize) (set (s .store) (l .gathered) b) (came ∷ h)
     came-started st e =
         let f : fromStart (since (came ∷ h)) ≡ b ∷ [] =
         ap fromStart came-since ∙ start-next (since h) b (st .none) ∙ cond-true (b ∷ []) [] (holds-true (same b 0x02) e) in
@@ -340,7 +343,7 @@ module _ (s : Session) (h : Past) (k : Agrees s h) where
           untold = λ u. refl;
           named = λ u. absurd (omega arith);
           sized = λ u. absurd (omega arith);
-          bytes = subst Bytes (sym f) (bytes-more [] b (λ i. lit≤ tt) small);
+          bytes = subst AllBytes (sym f) (bytes-more [] b (λ i. lit≤ tt) small);
           bound = came-fewer (st .bound);
         }
 
@@ -351,30 +354,30 @@ module _ (s : Session) (h : Past) (k : Agrees s h) where
       came-from : fromStart (since h ++ (b ∷ [])) ≡ before ++ (b ∷ [])
       came-from = start-more (since h) (b ∷ []) (omega (arith, st .size, st .least))
 
-      came-size : length (before ++ (b ∷ [])) ≡ l .got + 1
+      came-size : length (before ++ (b ∷ [])) ≡ l .gathered + 1
       came-size = length-append before (b ∷ []) ∙ ap (λ (n : ℕ). n + 1) (st .size)
 
-      came-filled : set (s .store) (l .got) b ≡ (before ++ (b ∷ [])) ++ replicate (storeSize - l .got - 1) 0
+      came-filled : set (s .store) (l .gathered) b ≡ (before ++ (b ∷ [])) ++ replicate (storeSize - l .gathered - 1) 0
       came-filled =
           ap₂ (λ (x : List ℕ) (n : ℕ). set x n b) (st .filled) (sym (st .size))
-          ∙ store-more before b (storeSize - l .got) (omega (arith, st .less, st .most))
+          ∙ store-more before b (storeSize - l .gathered) (omega (arith, st .less, st .most))
 
-      came-bytes : Bytes (before ++ (b ∷ []))
+      came-bytes : AllBytes (before ++ (b ∷ []))
       came-bytes = bytes-more before b (st .bytes) small
 
       -- the second byte is the address
-      came-named : (l .got ≡ 1 → b ≡ 0x03) → 1 ≤ l .got → getD (before ++ (b ∷ [])) 1 0 ≡ 0x03
+      came-named : (l .gathered ≡ 1 → b ≡ 0x03) → 1 ≤ l .gathered → getD (before ++ (b ∷ [])) 1 0 ≡ 0x03
       came-named address h =
-          by-cases (same (l .got) 1)
+          by-cases (same (l .gathered) 1)
           (λ g. getD-at before b [] 0 1 (st .size ∙ g) ∙ address g)
           (λ n. List·getD-append before (b ∷ []) 0 1 (omega (arith, n, st .size)) ∙ st .named (omega (arith, n)))
 
       -- one byte more of an answer
-      came-kept : (n want : ℕ) → n ≡ l .got + 1 → n < want → want ≤ storeSize → (n ≤ 2 → want ≡ storeSize) → (n ≡ 2 → b ≡ 0x03)
-          → (3 ≤ n → getD (before ++ (b ∷ [])) 2 0 ≡ want) → Gathering (inside l (l .left) n want) (set (s .store) (l .got) b) (came ∷ h)
+      came-kept : (n want : ℕ) → n ≡ l .gathered + 1 → n < want → want ≤ storeSize → (n ≤ 2 → want ≡ storeSize) → (n ≡ 2 → b ≡ 0x03)
+          → (3 ≤ n → getD (before ++ (b ∷ [])) 2 0 ≡ want) → Gathering (inside l (l .left) n want) (set (s .store) (l .gathered) b) (came ∷ h)
       came-kept n want e less most untold address sized =
           let f : fromStart (since (came ∷ h)) ≡ before ++ (b ∷ []) = ap fromStart came-since ∙ came-from in
-          let m : storeSize - l .got - 1 ≡ storeSize - n = omega arith in
+          let m : storeSize - l .gathered - 1 ≡ storeSize - n = omega arith in
           record {
             live = came-open ∙ st .live;
             size = ap length f ∙ came-size ∙ sym e;
@@ -385,25 +388,25 @@ module _ (s : Session) (h : Past) (k : Agrees s h) where
             untold = untold;
             named = λ u. ap (λ (x : List ℕ). getD x 1 0) f ∙ came-named (λ g. address (omega arith)) (omega arith);
             sized = λ u. ap (λ (x : List ℕ). getD x 2 0) f ∙ sized u;
-            bytes = subst Bytes (sym f) came-bytes;
+            bytes = subst AllBytes (sym f) came-bytes;
             bound = came-fewer (st .bound);
           }
 
       -- the last one: what is judged is what came since 02h
-      came-full : l .want ≡ l .got + 1 → take (l .want) (set (s .store) (l .got) b) ≡ fromStart (since h ++ (b ∷ []))
+      came-full : l .length ≡ l .gathered + 1 → take (l .length) (set (s .store) (l .gathered) b) ≡ fromStart (since h ++ (b ∷ []))
       came-full e =
-          ap (take (l .want)) came-filled
-          ∙ take-at (before ++ (b ∷ [])) (replicate (storeSize - l .got - 1) 0) (l .want) (came-size ∙ sym e)
+          ap (take (l .length)) came-filled
+          ∙ take-at (before ++ (b ∷ [])) (replicate (storeSize - l .gathered - 1) 0) (l .length) (came-size ∙ sym e)
           ∙ sym came-from
 
     -- ---- a byte, by where the line stands
 
     module _ (r : List ℕ) where
       -- what a turn of the line leads to
-      abbrev After : Turn → Type 0
-      After t = Next s h (hears b) (byteActed (t .todo) (t .line) (l .want) (s .store) (l .got) b r)
+      abbrev After : Hearing → Type 0
+      After t = Next s h (hears b) (byteActed (t .heard) (t .line) (l .length) (s .store) (l .gathered) b r)
 
-      after-idle : l .phase ≡ Idle → Resting l (s .store) h → Next s h (hears b) (acted Nothing (still l quiet) (s .store) r)
+      after-idle : l .phase ≡ Idle → Resting l (s .store) h → After (hearing (still l quiet) Skip)
       unfolding bookedBy
       after-idle p st =
           record {
@@ -425,8 +428,8 @@ module _ (s : Session) (h : Past) (k : Agrees s h) where
           })
 
       module _ (st : Gathering l (s .store) h) where
-        kept : (n want : ℕ) → n ≡ l .got + 1 → n < want → want ≤ storeSize → (n ≤ 2 → want ≡ storeSize) → (n ≡ 2 → b ≡ 0x03)
-            → (3 ≤ n → getD (before st ++ (b ∷ [])) 2 0 ≡ want) → Next s h (hears b) (byteActed Keep (inside l (l .left) n want) (l .want) (s .store) (l .got) b r)
+        kept : (n want : ℕ) → n ≡ l .gathered + 1 → n < want → want ≤ storeSize → (n ≤ 2 → want ≡ storeSize) → (n ≡ 2 → b ≡ 0x03)
+            → (3 ≤ n → getD (before st ++ (b ∷ [])) 2 0 ≡ want) → Next s h (hears b) (byteActed Keep (inside l (l .left) n want) (l .length) (s .store) (l .gathered) b r)
         unfolding bookedBy
         kept n want e less most untold address sized =
             record {
@@ -435,17 +438,17 @@ module _ (s : Session) (h : Past) (k : Agrees s h) where
               truly = came-truly;
             }
 
-        after-address : l .got ≡ 1 → After (addressByte l b)
+        after-address : l .gathered ≡ 1 → After (addressByte l b)
         unfolding addressByte
         after-address g =
             pick After (same b _) _ _
-            (λ e. kept 2 (l .want) (omega arith) (omega (arith, st .untold (omega arith))) (st .most) (λ u. st .untold (omega arith)) (λ u. omega (arith, e)) (λ u. absurd (omega arith)))
+            (λ e. kept 2 (l .length) (omega arith) (omega (arith, st .untold (omega arith))) (st .most) (λ u. st .untold (omega arith)) (λ u. omega (arith, e)) (λ u. absurd (omega arith)))
             (λ n.
             heard-damaged (st .bound) (st .live) r b
             (subst (Says damaged) (sym (came-from st))
             (wrong-address (before st ++ (b ∷ [])) (omega (arith, came-size st)) (λ f. let is = sym (getD-at (before st) b [] 0 1 (st .size ∙ g)) ∙ f in n (omega (arith, is))))))
 
-        after-length : l .got ≡ 2 → After (lengthByte l b)
+        after-length : l .gathered ≡ 2 → After (lengthByte l b)
         unfolding lengthByte
         after-length g =
             pick After (under b 6) _ _
@@ -461,28 +464,28 @@ module _ (s : Session) (h : Past) (k : Agrees s h) where
             least : (b < 6 → ⊥) → 6 ≤ b
             least n = omega arith
 
-        after-further : (l .got ≡ 1 → ⊥) → (l .got ≡ 2 → ⊥) → After (furtherByte l)
+        after-further : (l .gathered ≡ 1 → ⊥) → (l .gathered ≡ 2 → ⊥) → After (furtherByte l)
         unfolding furtherByte judgeStep
         after-further g f =
-            pick After (under (l .got + 1) (l .want)) _ _
-            (λ e. kept (l .got + 1) (l .want) refl e (st .most) (λ u. absurd (omega (arith, st .least, g, f))) (λ u. absurd (omega (arith, g))) (λ u. sizing))
+            pick After (under (l .gathered + 1) (l .length)) _ _
+            (λ e. kept (l .gathered + 1) (l .length) refl e (st .most) (λ u. absurd (omega (arith, st .least, g, f))) (λ u. absurd (omega (arith, g))) (λ u. sizing))
             (λ n.
             let whole = came-full st (omega (arith, st .less, n)) in
             let is = whole ∙ came-from st in
-            heard-full (st .bound) (st .live) r b (take (l .want) (set (s .store) (l .got) b)) whole
+            heard-full (st .bound) (st .live) r b (take (l .length) (set (s .store) (l .gathered) b)) whole
             (ap (λ (x : List ℕ). getD x 1 0) is ∙ came-named st (λ q. absurd (g q)) (st .least))
-            (subst Bytes (sym is) (came-bytes st))
+            (subst AllBytes (sym is) (came-bytes st))
             (omega (arith, st .least, g, f, ap length is, came-size st))
             (ap (λ (x : List ℕ). getD x 2 0) is ∙ sizing ∙ omega (arith, st .less, n, ap length is, came-size st)))
           where
-            sizing : getD (before st ++ (b ∷ [])) 2 0 ≡ l .want
+            sizing : getD (before st ++ (b ∷ [])) 2 0 ≡ l .length
             sizing = List·getD-append (before st) (b ∷ []) 0 2 (omega (arith, st .least, st .size, g, f)) ∙ st .sized (omega (arith, st .least, g, f))
 
-        after-inside : After (gathered l b)
-        unfolding gathered
+        after-inside : After (answerByte l b)
+        unfolding answerByte
         after-inside =
-            pick After (same (l .got) 1) _ _ after-address
-            (λ n. pick After (same (l .got) 2) _ _ after-length (λ m. after-further n m))
+            pick After (same (l .gathered) 1) _ _ after-address
+            (λ n. pick After (same (l .gathered) 2) _ _ after-length (λ m. after-further n m))
 
       after-heard : After (heard l b)
       unfolding heard
@@ -496,11 +499,11 @@ module _ (s : Session) (h : Past) (k : Agrees s h) where
   -- ---- a tick
 
   module _ (ms : ℕ) where
-    abbrev went : Event Request Ending
+    abbrev went : Known
     went = done (waits ms) [] goes-on
 
     went-base : (m : Line) → m .accepted ≡ l .accepted → m .code ≡ l .code → m .last ≡ l .last → Base m (s .bills) (went ∷ h)
-    unfolding accepted lastCode
+    unfolding accepted ofNewest
     went-base m ma mc ml = same-base l m (s .bills) h (k .base) ma mc ml went refl refl refl
 
     went-since : since (went ∷ h) ≡ since h
@@ -536,14 +539,14 @@ module _ (s : Session) (h : Past) (k : Agrees s h) where
         record {
           live = went-open ∙ st .live;
           size = ap (λ (x : List ℕ). length (fromStart x)) went-since ∙ st .size;
-          filled = st .filled ∙ ap (λ (x : List ℕ). fromStart x ++ replicate (storeSize - l .got) 0) (sym went-since);
+          filled = st .filled ∙ ap (λ (x : List ℕ). fromStart x ++ replicate (storeSize - l .gathered) 0) (sym went-since);
           least = st .least;
           less = st .less;
           most = st .most;
           untold = st .untold;
           named = λ u. ap (λ (x : List ℕ). getD (fromStart x) 1 0) went-since ∙ st .named u;
           sized = λ u. ap (λ (x : List ℕ). getD (fromStart x) 2 0) went-since ∙ st .sized u;
-          bytes = subst (λ (x : List ℕ). Bytes (fromStart x)) (sym went-since) (st .bytes);
+          bytes = subst (λ (x : List ℕ). AllBytes (fromStart x)) (sym went-since) (st .bytes);
           bound = went-fewer (st .bound);
         }
 
@@ -579,7 +582,7 @@ module _ (s : Session) (h : Past) (k : Agrees s h) where
     abbrev sent-frame : List ℕ
     sent-frame = frame 0x03 (code ∷ given)
 
-    abbrev wrote : Event Request Ending
+    abbrev wrote : Known
     wrote = done (asks (record { code = code; given = given })) (take (length sent-frame) (over sent-frame r)) goes-on
 
     wrote-since : since (wrote ∷ h) ≡ []
@@ -595,7 +598,7 @@ module _ (s : Session) (h : Past) (k : Agrees s h) where
 
     wrote-agrees : Resting l (s .store) h → l .accepted < commandLimit
         → Agrees (record { line = opened l code (l .accepted + 1); bills = s .bills; store = s .store }) (wrote ∷ h)
-    unfolding isOpen accepted lastCode reported counted classOf fromStart Truly
+    unfolding isOpen accepted ofNewest reported counted classOf fromStart Truly
     wrote-agrees st f =
         record {
           base =
@@ -643,7 +646,7 @@ module _ (s : Session) (h : Past) (k : Agrees s h) where
       }
 
   declined-agrees : Agrees s (declined ∷ h)
-  unfolding accepted lastCode reported counted classOf Truly
+  unfolding accepted ofNewest reported counted classOf Truly
   declined-agrees =
       record {
         base =
@@ -660,39 +663,39 @@ module _ (s : Session) (h : Past) (k : Agrees s h) where
       }
 
   request-agrees : (code : ℕ) (given r : List ℕ)
-      → Agrees (sessionRequest s code given r .session) (seen s (request code given r) ∷ h)
+      → Agrees (sessionRequest s code given r .session) (seen host s (request code given r) ∷ h)
   unfolding sessionRequest requestStep requestRefusals
   request-agrees code given r =
       either-way
       (λ (w : StepAfter).
       Agrees (record { line = w .step .line; bills = s .bills; store = s .store })
-      (told (asks (record { code = code; given = given })) (w .step .reply) (w .room) ∷ h))
+      (told ending (asks (record { code = code; given = given })) (returned (w .step .reply)) (w .room) ∷ h))
       (requestRefusals (s .line) code given r) (λ why. stepAfter (refusedStep (s .line) why) r) _
       (λ why. declined-agrees)
       (λ n.
       wrote-agrees s h k code given r (resting s h k code given r (s .line .phase) (n .1 .1 .0) (k .stands)) (omega (arith, n .1 .1 .1 .1 .0)))
 
-  byte-agrees : (b : ℕ) (small : b < 256) (r : List ℕ) → Agrees (sessionByte s b r .session) (seen s (byte b small r) ∷ h)
+  byte-agrees : (b : ℕ) (small : b < 256) (r : List ℕ) → Agrees (sessionByte s b r .session) (seen host s (byte b small r) ∷ h)
   unfolding sessionByte byteStep bookedBy
   byte-agrees b small r =
       either-way (Next s h (hears b)) (byteRefusals r) (λ why. lentAfter (refusedStep (s .line) why) (s .store) r) _
       (λ why. declined-agrees)
       (λ n. after-heard s h k b small r)
 
-  tick-agrees : (ms : ℕ) (r : List ℕ) → Agrees (sessionTick s ms r .session) (seen s (tick ms r) ∷ h)
+  tick-agrees : (ms : ℕ) (r : List ℕ) → Agrees (sessionTick s ms r .session) (seen host s (tick ms r) ∷ h)
   unfolding sessionTick tickStep bookedBy
   tick-agrees ms r =
       either-way (Next s h (waits ms)) (tickRefusals ms r) (λ why. lentAfter (refusedStep (s .line) why) (s .store) r) _
       (λ why. declined-agrees)
       (λ n. after-passed s h k ms r)
 
-called-agrees : (s : Session) (h : Past) (c : Call) → Agrees s h → Agrees (called s c .session) (seen s c ∷ h)
+called-agrees : (s : Session) (h : Past) (c : Call) → Agrees s h → Agrees (host .called s c .session) (seen host s c ∷ h)
 called-agrees s h (request code given r) k = request-agrees s h k code given r
 called-agrees s h (byte b small r) k = byte-agrees s h k b small r
 called-agrees s h (tick ms r) k = tick-agrees s h k ms r
 
 fresh-agrees : Agrees freshSession []
-unfolding freshSession isOpen quietTime accepted lastCode reported counted classOf Truly
+unfolding freshSession isOpen quietTime accepted ofNewest reported counted classOf Truly
 fresh-agrees =
     record {
       base =
@@ -709,12 +712,12 @@ fresh-agrees =
     }
 
 -- after any calls at all
-run-agrees : (s : Session) (h : Past) (cs : List Call) → Agrees s h → Agrees (run s cs) (historyFrom s h cs)
+run-agrees : (s : Session) (h : Past) (cs : List Call) → Agrees s h → Agrees (run host s cs) (historyFrom host s h cs)
 unfolding run historyFrom
 run-agrees s h [] k = k
-run-agrees s h (c ∷ cs) k = run-agrees (called s c .session) (seen s c ∷ h) cs (called-agrees s h c k)
+run-agrees s h (c ∷ cs) k = run-agrees (host .called s c .session) (seen host s c ∷ h) cs (called-agrees s h c k)
 
-always-agrees : (cs : List Call) → Agrees (run freshSession cs) (history cs)
+always-agrees : (cs : List Call) → Agrees (run host freshSession cs) (history cs)
 always-agrees cs = run-agrees freshSession [] cs fresh-agrees
 
 -- ---- what is promised
@@ -737,7 +740,7 @@ kept-by-history =
     record {
       bills = λ cs. always-agrees cs .base .counts;
       few = λ cs y small.
-          let s = run freshSession cs in
+          let s = run host freshSession cs in
           let k = always-agrees cs in
           omega (
             arith,
@@ -746,7 +749,7 @@ kept-by-history =
             k .base .few,
           );
       store = λ cs.
-          let s = run freshSession cs in
+          let s = run host freshSession cs in
           store-is (s .line) (s .store) (history cs) (s .line .phase) (always-agrees cs .stands);
       closings = λ cs. always-agrees cs .truly;
     }
@@ -800,5 +803,5 @@ module _ (s : Session) (h : Past) (k : Agrees s h) (code : ℕ) (given r : List 
 
 pub declines-by-history : DeclinesByHistory
 declines-by-history cs code given r =
-    let s = run freshSession cs in
+    let s = run host freshSession cs in
     given-alike (exactly-when .request s code given r) (refusals-alike s (history cs) (always-agrees cs) code given r) refl

@@ -8,15 +8,15 @@ use lib.Dec.{eqb}
 use lib.ListN.{length, getD, length-set}
 use lib.Seq.{getD-set-same, getD-set-other}
 use borrow.Author.Tests.{lt-ltb, le-leb, eq-eqb, ne-eqb}
-use Rattle.numbers.specs.Rules.{same, under}
-use Rattle.numbers.proofs.Rules.{pick, by-cases, cond-true, cond-false}
+use Rattle.refusals.specs.Rules.{same, under}
+use Rattle.refusals.proofs.Rules.{pick, by-cases, cond-true, cond-false}
 use Rattle.ccnet_frame.specs.Class.{classOf}
 use Rattle.ccnet_frame.specs.declared.class.Class.{Class}
-use Rattle.ledger.specs.Events.{Event}
 use Rattle.ledger.specs.Line.{accepted}
 use Rattle.validator_rules.specs.Limits.{commandLimit, types}
 use Rattle.validator_rules.specs.Bills.{bills, plus, bookedBy, stackedType, isPollAnswer, poll, credited, remembered}
-use Rattle.validator_rules.specs.History.{Request, Ending, Past, lastCode, pollBody, reported, counted}
+use Rattle.validator_rules.specs.Calls.{Known, Past}
+use Rattle.validator_rules.specs.History.{lastCode, answerTo, reported, counted}
 use Rattle.validator_rules.specs.declared.bills.Bills.{Bills}
 use Rattle.validator_rules.specs.declared.line.Line.{Line}
 use Rattle.validator_rules.proofs.Past.{nothing-reported, nothing-counted, counted-one, counted-none, stacked-is}
@@ -74,7 +74,7 @@ abbrev pub Fewer : Past → Type 0
 Fewer h = (y : ℕ) → y < types → counted y h < accepted h
 
 module _ (l : Line) (bs : List Bills) (h : Past) (base : Base l bs h) (fewer : Fewer h)
-    (e : Event Request Ending) (body : List ℕ) (is : pollBody e h ≡ cond (eqb (l .code) poll) body []) where
+    (e : Known) (body : List ℕ) (is : answerTo poll e h ≡ cond (eqb (l .code) poll) body []) where
   abbrev class : Class
   class = classOf body
 
@@ -85,7 +85,7 @@ module _ (l : Line) (bs : List Bills) (h : Past) (base : Base l bs h) (fewer : F
     where
       by : (t : Bool) → eqb (l .code) poll ≡ t → remembered (l .code) (l .last) class ≡ stackedType (classOf (reported (e ∷ h)))
       by true t =
-          let b : pollBody e h ≡ body = is ∙ cond-true body [] t in
+          let b : answerTo poll e h ≡ body = is ∙ cond-true body [] t in
           let m : remembered (l .code) (l .last) class ≡ cond (isPollAnswer class) (stackedType class) (l .last) = rw t in
           let r : reported (e ∷ h) ≡ cond (isPollAnswer class) body (reported h) = rw b in
           m ∙ listed (isPollAnswer class) ∙ ap (λ (s : List ℕ). stackedType (classOf s)) (sym r)
@@ -94,7 +94,7 @@ module _ (l : Line) (bs : List Bills) (h : Past) (base : Base l bs h) (fewer : F
           listed true = refl
           listed false = base .last-is
       by false t =
-          let b : pollBody e h ≡ [] = is ∙ cond-false body [] t in
+          let b : answerTo poll e h ≡ [] = is ∙ cond-false body [] t in
           let m : remembered (l .code) (l .last) class ≡ l .last = rw t in
           m ∙ base .last-is ∙ ap (λ (s : List ℕ). stackedType (classOf s)) (sym (nothing-reported e h b))
 
@@ -108,7 +108,7 @@ module _ (l : Line) (bs : List Bills) (h : Past) (base : Base l bs h) (fewer : F
 
     to-a-poll : eqb (l .code) poll ≡ true → getD (bookedBy bs (credited (l .code) (l .last) class)) y (bills 0) .0 ≡ counted y (e ∷ h)
     to-a-poll t =
-        let b : pollBody e h ≡ body = is ∙ cond-true body [] t in
+        let b : answerTo poll e h ≡ body = is ∙ cond-true body [] t in
         by-cases (same (stackedType class) (l .last))
         (λ repeat.
         rw (credits-repeat (l .code) (l .last) class t repeat)
@@ -133,7 +133,7 @@ module _ (l : Line) (bs : List Bills) (h : Past) (base : Base l bs h) (fewer : F
 
     to-another : eqb (l .code) poll ≡ false → getD (bookedBy bs (credited (l .code) (l .last) class)) y (bills 0) .0 ≡ counted y (e ∷ h)
     to-another t =
-        let b : pollBody e h ≡ [] = is ∙ cond-false body [] t in
+        let b : answerTo poll e h ≡ [] = is ∙ cond-false body [] t in
         rw (credits-none (l .code) (l .last) class t) (stays (nothing-counted y e h b) types not-types)
 
     counts-after : getD (bookedBy bs (credited (l .code) (l .last) class)) y (bills 0) .0 ≡ counted y (e ∷ h)
@@ -159,7 +159,7 @@ module _ (l : Line) (bs : List Bills) (h : Past) (base : Base l bs h) (fewer : F
 
 -- nothing completed: all of it stays
 pub same-base : (l m : Line) (bs : List Bills) (h : Past) → Base l bs h → m .accepted ≡ l .accepted → m .code ≡ l .code → m .last ≡ l .last
-    → (e : Event Request Ending) → pollBody e h ≡ [] → accepted (e ∷ h) ≡ accepted h → lastCode (e ∷ h) ≡ lastCode h → Base m bs (e ∷ h)
+    → (e : Known) → answerTo poll e h ≡ [] → accepted (e ∷ h) ≡ accepted h → lastCode (e ∷ h) ≡ lastCode h → Base m bs (e ∷ h)
 same-base l m bs h base ma mc ml e none ea ec =
     record {
       accepted-is = ma ∙ base .accepted-is ∙ sym ea;

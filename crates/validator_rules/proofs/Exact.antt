@@ -1,27 +1,31 @@
 -- Each number is given exactly when 01 says, a call that is declined leaves everything as it was, and a call that is done sends what its
 -- closing calls for. Assumes nothing.
 use Prim.Native.Nat.{ℕ}
-use mathlib.Core.Path.{_≡_, refl, sym, _∙_}
+use mathlib.Core.Path.{_≡_, refl, sym, ap, _∙_}
 use mathlib.Core.Bool.{true}
 use mathlib.Core.List.{List, _∷_}
 use native.Mathlib.Omega.{arith}
 use lib.ListN.{set, take}
-use Rattle.numbers.specs.Rules.{Rule, judged}
-use Rattle.numbers.proofs.Rules.{either-way}
+use Rattle.refusals.specs.Rules.{Rule, judged}
+use Rattle.refusals.proofs.Rules.{either-way}
 use Rattle.ccnet_frame.specs.Frame.{frame}
 use Rattle.ccnet_frame.specs.declared.class.Class.{Class}
 use Rattle.ccnet_frame.specs.declared.class.Class.the-variants.{Ack, Nak, Illegal, State, Busy, Rejecting, Failing, Escrow, Stacked, Returned, Unknown}
-use Rattle.ledger.proofs.Declining.{Apart, rising, given-exactly}
+use Rattle.ledger.specs.Calls.{IsDone}
+use Rattle.ledger.proofs.Declining.{told-apart, rising, given-exactly}
 use Rattle.validator_rules.specs.Line.{heard, passed}
 use Rattle.validator_rules.specs.Bills.{bookedBy}
 use Rattle.validator_rules.specs.Session.{After, Sent, sent, sending, LentAfter, StepAfter, byteRefusals, tickRefusals, requestRefusals, refusedStep, stepAfter, lentAfter, afterStep, damagedStep, answeredStep, classStep, judgedStep, judgeStep, found, acted, byteActed, byteStep, tickStep, requestStep, sessionRequest, sessionByte, sessionTick}
-use Rattle.validator_rules.specs.Promises.{IsDone, ExactlyWhen, sends, Sends}
+use Rattle.validator_rules.specs.Calls.{returned}
+use Rattle.validator_rules.specs.Promises.{ExactlyWhen, sends, Sends}
 use Rattle.validator_rules.specs.declared.line.Line.{Line}
 use Rattle.validator_rules.specs.declared.line.Todo.{Todo}
-use Rattle.validator_rules.specs.declared.line.Todo.the-variants.{Nothing, Keep, Judge, Damage, Silence}
-use Rattle.ledger.specs.declared.Declined.{Declined}
+use Rattle.validator_rules.specs.declared.line.Todo.the-variants.{Nothing, CloseDamaged, CloseSilent}
+use Rattle.validator_rules.specs.declared.line.Heard.{Heard}
+use Rattle.validator_rules.specs.declared.line.Heard.the-variants.{Skip, Keep, Judge, Wrong}
+use Rattle.refusals.specs.declared.Declined.{Declined}
 use Rattle.validator_rules.specs.declared.session.Reply.{Reply}
-use Rattle.validator_rules.specs.declared.session.Reply.the-variants.{Refused, Done}
+use Rattle.validator_rules.specs.declared.session.Reply.the-variants.{NotDone, Done}
 use Rattle.validator_rules.specs.declared.session.Closing.{Closing}
 use Rattle.validator_rules.specs.declared.session.Found.{Found}
 use Rattle.validator_rules.specs.declared.session.Found.the-variants.{Bad, Good}
@@ -34,20 +38,16 @@ record Told (p : Reply) (calls : Closing → Sent) (room : List ℕ) : Type 0 wh
   is : p ≡ Done put closing
   sent-is : sent put room ≡ calls closing
 
-is-done : {p : Reply} {calls : Closing → Sent} {room : List ℕ} → Told p calls room → IsDone p
-is-done t = (t .put, (t .closing, t .is))
-
--- a reply is a number or tells what was done, and never both
-apart : Apart Refused IsDone
-apart = record { each = λ x y e. cc; never = λ x d. let z : _≡_ {A = ℕ} 0 1 = cc in omega arith }
+is-done : {p : Reply} {calls : Closing → Sent} {room : List ℕ} → Told p calls room → IsDone (returned p)
+is-done t = (t .put, (t .closing, ap returned (t .is)))
 
 -- one law for what the three calls send: g makes the outcome of what was judged; refused, it has no closing, and done, it tells what it sends
 module _ {A : Type 0} (rules : List (Rule Declined)) (refuse : Declined → A) (done : A) (g : A → After) (f : Closing → Sent)
-    (says : (why : Declined) → g (refuse why) .reply ≡ Refused why) (told : Told (g done .reply) f (g done .room)) where
+    (says : (why : Declined) → g (refuse why) .reply ≡ NotDone why) (told : Told (g done .reply) f (g done .room)) where
   tells : (n : ℕ) (c : Closing) → g (judged rules refuse done) .reply ≡ Done n c → sent n (g (judged rules refuse done) .room) ≡ f c
   tells =
       either-way (λ (a : A). (n : ℕ) (c : Closing) → g a .reply ≡ Done n c → sent n (g a .room) ≡ f c) rules refuse done
-      (λ why n c e. absurd (apart .never why (n, (c, sym (says why) ∙ e))))
+      (λ why n c e. absurd (told-apart .never why (n, (c, ap returned (sym (says why) ∙ e)))))
       (λ none n c e. cc)
 
 -- ---- whatever is done, bytes and a closing are told, and what was sent is what the closing calls for
@@ -83,18 +83,15 @@ module _ (l : Line) (r : List ℕ) where
 
   acted-told : (t : Todo) (store : List ℕ) → Tells (acted t l store r) r
   acted-told Nothing store = record { put = _; closing = _; is = refl; sent-is = refl }
-  acted-told Keep store = record { put = _; closing = _; is = refl; sent-is = refl }
-  acted-told Judge store = record { put = _; closing = _; is = refl; sent-is = refl }
-  acted-told Damage store = damaged-told
-  acted-told Silence store = record { put = _; closing = _; is = refl; sent-is = refl }
+  acted-told CloseDamaged store = damaged-told
+  acted-told CloseSilent store = record { put = _; closing = _; is = refl; sent-is = refl }
 
-  byte-told : (t : Todo) (want : ℕ) (store : List ℕ) (at b : ℕ) → Tells (byteActed t l want store at b r) r
+  byte-told : (t : Heard) (n : ℕ) (store : List ℕ) (at b : ℕ) → Tells (byteActed t l n store at b r) r
   unfolding judgeStep
-  byte-told Nothing want store at b = acted-told Nothing store
-  byte-told Keep want store at b = record { put = _; closing = _; is = refl; sent-is = refl }
-  byte-told Judge want store at b = judged-told (found (take want (set store at b)))
-  byte-told Damage want store at b = acted-told Damage store
-  byte-told Silence want store at b = acted-told Silence store
+  byte-told Skip n store at b = record { put = _; closing = _; is = refl; sent-is = refl }
+  byte-told Keep n store at b = record { put = _; closing = _; is = refl; sent-is = refl }
+  byte-told Judge n store at b = judged-told (found (take n (set store at b)))
+  byte-told Wrong n store at b = damaged-told
 
 -- ---- the three calls
 
@@ -120,14 +117,14 @@ unfolding sessionRequest sessionByte sessionTick requestStep byteStep tickStep b
 exactly-when =
     record {
       request = λ s code given r.
-          given-exactly apart (λ why. stepAfter (refusedStep (s .line) why) r) _ (opening s) (request-rises (s .line) code given r) (λ why. refl) (λ why. refl) (_, (_, refl));
+          given-exactly told-apart (λ why. stepAfter (refusedStep (s .line) why) r) _ (opening s) (request-rises (s .line) code given r) (λ why. refl) (λ why. refl) (_, (_, refl));
       byte = λ s b r.
           let t = heard (s .line) b in
-          given-exactly apart (λ why. lentAfter (refusedStep (s .line) why) (s .store) r) _ (afterStep s) (byte-rises r) (λ why. refl) (λ why. refl)
-          (is-done (byte-told (t .line) r (t .todo) (s .line .want) (s .store) (s .line .got) b));
+          given-exactly told-apart (λ why. lentAfter (refusedStep (s .line) why) (s .store) r) _ (afterStep s) (byte-rises r) (λ why. refl) (λ why. refl)
+          (is-done (byte-told (t .line) r (t .heard) (s .line .length) (s .store) (s .line .gathered) b));
       tick = λ s ms r.
           let t = passed (s .line) ms in
-          given-exactly apart (λ why. lentAfter (refusedStep (s .line) why) (s .store) r) _ (afterStep s) (tick-rises ms r) (λ why. refl) (λ why. refl)
+          given-exactly told-apart (λ why. lentAfter (refusedStep (s .line) why) (s .store) r) _ (afterStep s) (tick-rises ms r) (λ why. refl) (λ why. refl)
           (is-done (acted-told (t .line) r (t .todo) (s .store)));
     }
 
@@ -141,7 +138,7 @@ what-is-sent =
       byte = λ s b r.
           let t = heard (s .line) b in
           tells (byteRefusals r) (λ why. lentAfter (refusedStep (s .line) why) (s .store) r) _ (afterStep s)
-          (λ c. sends c r) (λ why. refl) (byte-told (t .line) r (t .todo) (s .line .want) (s .store) (s .line .got) b);
+          (λ c. sends c r) (λ why. refl) (byte-told (t .line) r (t .heard) (s .line .length) (s .store) (s .line .gathered) b);
       tick = λ s ms r.
           let t = passed (s .line) ms in
           tells (tickRefusals ms r) (λ why. lentAfter (refusedStep (s .line) why) (s .store) r) _ (afterStep s)

@@ -8,16 +8,16 @@ use native.Mathlib.Omega.{arith}
 use native.Mathlib.Nat.{le-refl}
 use lib.Dec.{eqb, lit<}
 use lib.ListN.{length, set, replicate}
-use Rattle.numbers.specs.Promises.{Bytes}
-use Rattle.numbers.proofs.Rules.{holds-true, fails-false, cond-true, cond-false}
+use Rattle.numbers.specs.Promises.{AllBytes}
+use Rattle.refusals.proofs.Rules.{holds-true, fails-false, cond-true, cond-false}
 use Rattle.ccnet_frame.specs.Class.{classOf, classBytes}
 use Rattle.ccnet_frame.specs.declared.class.Class.{Class}
 use Rattle.ccnet_frame.specs.declared.class.Class.the-variants.{Ack, Nak, Illegal, State, Busy, Rejecting, Failing, Escrow, Stacked, Returned, Unknown}
 use Rattle.ccnet_frame.proofs.Classes.{classes}
-use Rattle.ledger.specs.Events.{Event}
 use Rattle.validator_rules.specs.Limits.{types}
-use Rattle.validator_rules.specs.Bills.{stackedType}
-use Rattle.validator_rules.specs.History.{Request, Ending, Past, fromStart, pollBody, reported, adds, counted}
+use Rattle.validator_rules.specs.Bills.{stackedType, poll}
+use Rattle.validator_rules.specs.Calls.{Known, Past}
+use Rattle.validator_rules.specs.History.{fromStart, answerTo, reported, adds, counted}
 
 -- ---- the bytes from 02h on
 
@@ -55,7 +55,7 @@ store-more (a ∷ g) b k h = ap (λ (s : List ℕ). a ∷ s) (store-more g b k h
 
 -- ---- bytes
 
-pub bytes-more : (g : List ℕ) (b : ℕ) → Bytes g → b < 256 → Bytes (g ++ (b ∷ []))
+pub bytes-more : (g : List ℕ) (b : ℕ) → AllBytes g → b < 256 → AllBytes (g ++ (b ∷ []))
 bytes-more [] b bytes small zero = small
 bytes-more [] b bytes small (suc i) = lit< tt
 bytes-more (a ∷ g) b bytes small zero = bytes 0
@@ -64,16 +64,16 @@ bytes-more (a ∷ g) b bytes small (suc i) = bytes-more g b (λ j. bytes (suc j)
 -- ---- answers
 
 -- nothing completed: nothing reported, nothing counted
-pub nothing-reported : (e : Event Request Ending) (h : Past) → pollBody e h ≡ [] → reported (e ∷ h) ≡ reported h
+pub nothing-reported : (e : Known) (h : Past) → answerTo poll e h ≡ [] → reported (e ∷ h) ≡ reported h
 unfolding reported classOf
 nothing-reported e h z = rw z
 
-pub nothing-counted : (y : ℕ) (e : Event Request Ending) (h : Past) → pollBody e h ≡ [] → counted y (e ∷ h) ≡ counted y h
+pub nothing-counted : (y : ℕ) (e : Known) (h : Past) → answerTo poll e h ≡ [] → counted y (e ∷ h) ≡ counted y h
 unfolding counted
 nothing-counted y e h z = rw z
 
 -- one call adds one bill at most
-pub counted-most : (y : ℕ) (e : Event Request Ending) (h : Past) → counted y (e ∷ h) ≤ counted y h + 1
+pub counted-most : (y : ℕ) (e : Known) (h : Past) → counted y (e ∷ h) ≤ counted y h + 1
 unfolding counted
 counted-most y e h = by (adds y e h .test)
   where
@@ -81,11 +81,11 @@ counted-most y e h = by (adds y e h .test)
     by true = le-refl _
     by false = omega arith
 
-pub counted-one : (y : ℕ) (e : Event Request Ending) (h : Past) → adds y e h .holds → counted y (e ∷ h) ≡ counted y h + 1
+pub counted-one : (y : ℕ) (e : Known) (h : Past) → adds y e h .holds → counted y (e ∷ h) ≡ counted y h + 1
 unfolding counted
 counted-one y e h a = cond-true _ _ (holds-true (adds y e h) a)
 
-pub counted-none : (y : ℕ) (e : Event Request Ending) (h : Past) → (adds y e h .holds → ⊥) → counted y (e ∷ h) ≡ counted y h
+pub counted-none : (y : ℕ) (e : Known) (h : Past) → (adds y e h .holds → ⊥) → counted y (e ∷ h) ≡ counted y h
 unfolding counted
 counted-none y e h a = cond-false _ _ (fails-false (adds y e h) a)
 

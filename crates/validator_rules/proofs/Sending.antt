@@ -8,11 +8,11 @@ use native.Mathlib.Omega.{arith}
 use lib.Dec.{lit≤}
 use lib.ListN.{length}
 use borrow.Author.Tests.{le-ltb}
-use Rattle.numbers.specs.Put.{written, writing, refused, laid}
-use Rattle.numbers.specs.declared.Put.{Put}
-use Rattle.numbers.specs.declared.Put.the-variants.{Bytes, Refused}
-use Rattle.numbers.specs.declared.Refusal.{Refusal}
-use Rattle.numbers.proofs.Rules.{none-judged}
+use Rattle.refusals.specs.Put.{written, writing, refused, laid}
+use Rattle.refusals.specs.declared.Put.{Put}
+use Rattle.refusals.specs.declared.Put.the-variants.{Bytes, Refused}
+use Rattle.refusals.specs.declared.Refusal.{Refusal}
+use Rattle.refusals.proofs.Rules.{none-judged}
 use Rattle.ccnet_frame.specs.Frame.{frame, frameRefusals, writeFrame}
 use Rattle.ccnet_frame.proofs.Frames.{frame-length}
 use Rattle.validator_rules.specs.Session.{sent, sending, isCommand}

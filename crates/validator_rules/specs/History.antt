@@ -8,83 +8,24 @@ use mathlib.Core.List.{List, [], _∷_, _++_}
 use native.Mathlib.Omega.{arith}
 use lib.Dec.{eqb}
 use lib.ListN.{length, getD, take, drop, replicate}
-use Rattle.numbers.specs.Rules.{Tells, Condition, Rule, says, under, atMost, within, same, both, isnt, and-tells, _gives_}
+use Rattle.refusals.specs.Rules.{Tells, Condition, Rule, says, under, atMost, within, same, both, isnt, and-tells, _gives_}
 use Rattle.ccnet_frame.specs.Frame.{frame}
 use Rattle.ccnet_frame.specs.Class.{classOf}
-use Rattle.ledger.specs.Events.{Deed, asks, hears, waits, Left, goes-on, closes, Event, declined, done, History, since}
-use Rattle.ledger.specs.Line.{isOpen, quietTime, accepted}
+use Rattle.ledger.specs.Events.{Deed, asks, hears, waits, own, Left, goes-on, closes, declined, done, since}
+use Rattle.ledger.specs.Line.{isOpen, quietTime, ofNewest, accepted}
+use Rattle.ledger.specs.Calls.{run, Declines}
 use Rattle.validator_rules.specs.Limits.{quiet, leastRoom, commandLimit, storeSize, types}
 use Rattle.validator_rules.specs.Bills.{bills, isPollAnswer, poll}
 use Rattle.validator_rules.specs.Session.{isCommand, freshSession, sessionRequest}
-use Rattle.validator_rules.specs.Promises.{Declines}
-use Rattle.validator_rules.specs.Calls.{Call, request, byte, tick, called, run}
-use Rattle.validator_rules.specs.declared.session.Closing.{Closing}
-use Rattle.validator_rules.specs.declared.session.Closing.the-variants.{Nothing, Acknowledged, Refused as GaveUp, Illegal, Answered, Damaged, Silent}
-use Rattle.ledger.specs.declared.Declined.{Declined}
-use Rattle.ledger.specs.declared.Declined.the-variants.{Room, Range, Open, Unquiet, Spent}
-use Rattle.validator_rules.specs.declared.session.Reply.{Reply}
-use Rattle.validator_rules.specs.declared.session.Reply.the-variants.{Refused, Done}
-use Rattle.validator_rules.specs.declared.session.Session.{Session}
-
--- what a request asks for
-pub record Request : Type 0 where
-  pub code : ℕ
-  pub given : List ℕ
-
--- the ways in which a command can close
-pub data Ending : Type 0 where
-  acknowledged : Ending
-  refused : Ending
-  illegal : Ending
-  answered : Ending
-  damaged : Ending
-  silent : Ending
-
-abbrev pub Past : Type 0
-Past = History Request Ending
-
--- ---- the history of calls
-
-abbrev pub deed : Call → Deed Request
-deed (request code given r) = asks (record { code = code; given = given })
-deed (byte b small r) = hears b
-deed (tick ms r) = waits ms
-
--- the closing that was returned; of an answer no more than that it came
-abbrev pub ending : Closing → Left Ending
-ending Nothing = goes-on
-ending Acknowledged = closes acknowledged
-ending GaveUp = closes refused
-ending Illegal = closes illegal
-ending (Answered c) = closes answered
-ending Damaged = closes damaged
-ending Silent = closes silent
-
--- what the caller knows of a call: what it returned, and the bytes that it put at the room's start
-abbrev pub told : Deed Request → Reply → List ℕ → Event Request Ending
-told d (Refused why) room = declined
-told d (Done n closing) room = done d (take n room) (ending closing)
-
-abbrev pub seen : Session → Call → Event Request Ending
-seen s c = told (deed c) (called s c .reply) (called s c .room)
-
--- the history after more calls
-unfoldable pub historyFrom : Session → Past → List Call → Past
-historyFrom s h [] = h
-historyFrom s h (c ∷ cs) = historyFrom (called s c .session) (seen s c ∷ h) cs
-
-abbrev pub history : List Call → Past
-history cs = historyFrom freshSession [] cs
+use Rattle.validator_rules.specs.Calls.{Call, Request, Own, Ending, acknowledged, not-acknowledged, illegal-command, answered, damaged, silent, Known, Past, host, history}
+use Rattle.refusals.specs.declared.Declined.{Declined}
+use Rattle.refusals.specs.declared.Declined.the-variants.{Room, Range, Open, Unquiet, Spent}
 
 -- ---- what it gives
 
 -- the code of the last command accepted; 0 before the first
-unfoldable pub lastCode : Past → ℕ
-lastCode [] = 0
-lastCode (declined ∷ h) = lastCode h
-lastCode (done (asks q) put left ∷ h) = q .code
-lastCode (done (hears b) put left ∷ h) = lastCode h
-lastCode (done (waits ms) put left ∷ h) = lastCode h
+abbrev pub lastCode : Past → ℕ
+lastCode h = ofNewest (λ (q : Request). q .code) 0 h
 
 -- "other bytes before 02h are skipped": the bytes from the first 02h on
 unfoldable pub fromStart : List ℕ → List ℕ
@@ -99,31 +40,32 @@ gathered h = cond (isOpen h) (fromStart (since h)) []
 unfoldable pub between : List ℕ → List ℕ
 between f = take (length f - 5) (drop 3 f)
 
--- the body of the answer to a POLL that ends with the byte b after h, by how the command closed; none where it was not answered, or was
--- no POLL
-abbrev pub bodyBy : Ending → Past → ℕ → List ℕ
-bodyBy acknowledged h b = []
-bodyBy refused h b = []
-bodyBy illegal h b = []
-bodyBy answered h b = cond (eqb (lastCode h) poll) (between (fromStart (since h ++ (b ∷ [])))) []
-bodyBy damaged h b = []
-bodyBy silent h b = []
+-- the body of the answer to a command with that code that ends with the byte b after h, by how the command closed; none where it was not
+-- answered, or had another code
+abbrev pub bodyBy : Ending → ℕ → Past → ℕ → List ℕ
+bodyBy acknowledged code h b = []
+bodyBy not-acknowledged code h b = []
+bodyBy illegal-command code h b = []
+bodyBy answered code h b = cond (eqb (lastCode h) code) (between (fromStart (since h ++ (b ∷ [])))) []
+bodyBy damaged code h b = []
+bodyBy silent code h b = []
 
-abbrev pub bodyOnce : Left Ending → Past → ℕ → List ℕ
-bodyOnce goes-on h b = []
-bodyOnce (closes k) h b = bodyBy k h b
+abbrev pub bodyOnce : Left Ending → ℕ → Past → ℕ → List ℕ
+bodyOnce goes-on code h b = []
+bodyOnce (closes k) code h b = bodyBy k code h b
 
--- the body of the answer to a POLL that a call completed after h; none where it completed none
-abbrev pub pollBody : Event Request Ending → Past → List ℕ
-pollBody declined h = []
-pollBody (done (asks q) put left) h = []
-pollBody (done (hears b) put left) h = bodyOnce left h b
-pollBody (done (waits ms) put left) h = []
+-- the body of the answer to a command with that code that a call completed after h; none where it completed none
+abbrev pub answerTo : ℕ → Known → Past → List ℕ
+answerTo code declined h = []
+answerTo code (done (asks q) put left) h = []
+answerTo code (done (hears b) put left) h = bodyOnce left code h b
+answerTo code (done (waits ms) put left) h = []
+answerTo code (done (own o) put left) h = []
 
 -- "the last listed poll answer received to a POLL"; none before the first
 unfoldable pub reported : Past → List ℕ
 reported [] = []
-reported (e ∷ h) = cond (isPollAnswer (classOf (pollBody e h))) (pollBody e h) (reported h)
+reported (e ∷ h) = cond (isPollAnswer (classOf (answerTo poll e h))) (answerTo poll e h) (reported h)
 
 -- two lists of bytes are the same
 abbrev pub sameTest : List ℕ → List ℕ → Bool
@@ -151,8 +93,8 @@ alike s t = record { holds = s ≡ t; test = sameTest s t; tells = same-tells s 
 
 -- "In an answer to POLL only, 81h with type y adds one bill of type y, unless the last listed poll answer received to a POLL was the same two
 -- bytes"
-abbrev pub adds : ℕ → Event Request Ending → Past → Condition
-adds y e h = both (alike (pollBody e h) (0x81 ∷ y ∷ [])) (isnt (alike (reported h) (0x81 ∷ y ∷ [])))
+abbrev pub adds : ℕ → Known → Past → Condition
+adds y e h = both (alike (answerTo poll e h) (0x81 ∷ y ∷ [])) (isnt (alike (reported h) (0x81 ∷ y ∷ [])))
 
 -- how many bills of type y the history gives
 unfoldable pub counted : ℕ → Past → ℕ
@@ -172,8 +114,8 @@ Other body = (body ≡ 0x00 ∷ [] → ⊥) × ((body ≡ 0xFF ∷ [] → ⊥) �
 -- of one. No byte closes as silent
 abbrev pub Says : Ending → List ℕ → Type 0
 Says acknowledged f = Carries f (0x00 ∷ [])
-Says refused f = Carries f (0xFF ∷ [])
-Says illegal f = Carries f (0x30 ∷ [])
+Says not-acknowledged f = Carries f (0xFF ∷ [])
+Says illegal-command f = Carries f (0x30 ∷ [])
 Says answered f = Carries f (between f) × Other (between f)
 Says damaged f = (body rest : List ℕ) → Carries (f ++ rest) body → ⊥
 Says silent f = ⊥
@@ -181,20 +123,21 @@ Says silent f = ⊥
 -- and where a tick closes it: "a late frame sends a NAK frame and closes as damaged; nothing started, closes as silent". How late is not said here
 abbrev pub Lapses : Ending → List ℕ → Type 0
 Lapses acknowledged f = ⊥
-Lapses refused f = ⊥
-Lapses illegal f = ⊥
+Lapses not-acknowledged f = ⊥
+Lapses illegal-command f = ⊥
 Lapses answered f = ⊥
 Lapses damaged f = f ≡ [] → ⊥
 Lapses silent f = f ≡ []
 
 -- by what was called after h; a request closes nothing
-abbrev pub SaysBy : Deed Request → Ending → Past → Type 0
+abbrev pub SaysBy : Deed Request Own → Ending → Past → Type 0
 SaysBy (asks q) k h = ⊥
 SaysBy (hears b) k h = Says k (fromStart (since h ++ (b ∷ [])))
 SaysBy (waits ms) k h = Lapses k (fromStart (since h))
+SaysBy (own o) k h = ⊥
 
 -- what a closing says; only an open command is closed
-abbrev pub SaysOnce : Left Ending → Deed Request → Past → Type 0
+abbrev pub SaysOnce : Left Ending → Deed Request Own → Past → Type 0
 SaysOnce goes-on d h = Unit {0}
 SaysOnce (closes k) d h = (isOpen h ≡ true) × SaysBy d k h
 
@@ -210,10 +153,10 @@ Truly (done d put left ∷ h) = SaysOnce left d h × Truly h
 -- gathering store holds the bytes gathered from 02h on, and then zeros: "all zero when fresh and again after each closing"; and every closing
 -- is what the bytes said
 pub record KeptByHistory : Type 0 where
-  pub bills : (cs : List Call) (y : ℕ) → y < types → getD (run freshSession cs .bills) y (bills 0) .0 ≡ counted y (history cs)
+  pub bills : (cs : List Call) (y : ℕ) → y < types → getD (run host freshSession cs .bills) y (bills 0) .0 ≡ counted y (history cs)
   pub few : (cs : List Call) (y : ℕ) → y < types → counted y (history cs) ≤ commandLimit
   pub store : (cs : List Call)
-      → run freshSession cs .store ≡ gathered (history cs) ++ replicate (storeSize - length (gathered (history cs))) 0
+      → run host freshSession cs .store ≡ gathered (history cs) ++ replicate (storeSize - length (gathered (history cs))) 0
   pub closings : (cs : List Call) → Truly (history cs)
 
 -- "Requests can meet 1 to 5", told from the history
@@ -229,5 +172,5 @@ historyRefusals h code given r =
 -- a request is declined exactly as the history says
 abbrev pub DeclinesByHistory : Type 0
 DeclinesByHistory = (cs : List Call) (code : ℕ) (given r : List ℕ)
-    → Declines (historyRefusals (history cs) code given r) (run freshSession cs) r
-    (sessionRequest (run freshSession cs) code given r)
+    → Declines host (historyRefusals (history cs) code given r) (run host freshSession cs) r
+    (sessionRequest (run host freshSession cs) code given r)

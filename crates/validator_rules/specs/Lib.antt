@@ -3,6 +3,6 @@ pub mod Limits
 pub mod Line
 pub mod Bills
 pub mod Session
-pub mod Promises
 pub mod Calls
+pub mod Promises
 pub mod History

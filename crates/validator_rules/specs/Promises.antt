@@ -2,41 +2,27 @@
 use Prim.Native.Nat.{ℕ}
 use mathlib.Core.Path.{_≡_}
 use mathlib.Core.List.{List, _∷_}
-use Rattle.numbers.specs.Rules.{Rule}
 use Rattle.ccnet_frame.specs.Frame.{frame}
-use Rattle.ledger.specs.Declining.{GivenExactlyWhen}
-use Rattle.validator_rules.specs.Session.{After, Sent, sent, sending, ack, nak, byteRefusals, tickRefusals, requestRefusals, sessionRequest, sessionByte, sessionTick}
-use Rattle.ledger.specs.declared.Declined.{Declined}
-use Rattle.validator_rules.specs.declared.session.Reply.{Reply}
-use Rattle.validator_rules.specs.declared.session.Reply.the-variants.{Refused, Done}
+use Rattle.ledger.specs.Calls.{Declines}
+use Rattle.validator_rules.specs.Session.{Sent, sent, sending, ack, nak, byteRefusals, tickRefusals, requestRefusals, sessionRequest, sessionByte, sessionTick}
+use Rattle.validator_rules.specs.Calls.{host}
+use Rattle.validator_rules.specs.declared.session.Reply.the-variants.{Done}
 use Rattle.validator_rules.specs.declared.session.Closing.{Closing}
-use Rattle.validator_rules.specs.declared.session.Closing.the-variants.{Nothing, Acknowledged, Refused as GaveUp, Illegal, Answered, Damaged, Silent}
+use Rattle.validator_rules.specs.declared.session.Closing.the-variants.{Nothing, Acknowledged, NotAcknowledged, IllegalCommand, Answered, Damaged, Silent}
 use Rattle.validator_rules.specs.declared.session.Session.{Session}
-
--- the call was declined: "session, account and all lent bytes keep their entry values"
-abbrev pub declinedAfter : Session → List ℕ → Declined → After
-declinedAfter s r why = record { session = s; reply = Refused why; room = r }
-
--- "An accepted session call returns how many bytes it put at the room's start and which closing it made, if any"
-abbrev pub IsDone : Reply → Type 0
-IsDone p = (n : ℕ) × ((c : Closing) × (p ≡ Done n c))
-
--- a call on the session s, lent the room r, answers each number exactly when the rules say, and else does its step
-abbrev pub Declines : List (Rule Declined) → Session → List ℕ → After → Type 0
-Declines rules s r w = GivenExactlyWhen (λ (v : After). v .reply) Refused IsDone (declinedAfter s r) rules w
 
 pub record ExactlyWhen : Type 0 where
   pub request : (s : Session) (code : ℕ) (given r : List ℕ)
-      → Declines (requestRefusals (s .line) code given r) s r (sessionRequest s code given r)
-  pub byte : (s : Session) (b : ℕ) (r : List ℕ) → Declines (byteRefusals r) s r (sessionByte s b r)
-  pub tick : (s : Session) (ms : ℕ) (r : List ℕ) → Declines (tickRefusals ms r) s r (sessionTick s ms r)
+      → Declines host (requestRefusals (s .line) code given r) s r (sessionRequest s code given r)
+  pub byte : (s : Session) (b : ℕ) (r : List ℕ) → Declines host (byteRefusals r) s r (sessionByte s b r)
+  pub tick : (s : Session) (ms : ℕ) (r : List ℕ) → Declines host (tickRefusals ms r) s r (sessionTick s ms r)
 
 -- what a byte or a tick sends, by the closing that it makes: an ACK frame to an answer, a NAK frame to a damaged one, and nothing else
 abbrev pub sends : Closing → List ℕ → Sent
 sends Nothing r = sent 0 r
 sends Acknowledged r = sent 0 r
-sends GaveUp r = sent 0 r
-sends Illegal r = sent 0 r
+sends NotAcknowledged r = sent 0 r
+sends IllegalCommand r = sent 0 r
 sends (Answered c) r = sending ack r
 sends Damaged r = sending nak r
 sends Silent r = sent 0 r

@@ -2,26 +2,29 @@
 use Prim.Native.Nat.{ℕ, _+_}
 use mathlib.Core.List.{List, [], _∷_}
 use lib.ListN.{length, take, set, replicate}
-use Rattle.numbers.specs.Rules.{Condition, Rule, says, under, atMost, within, same, either, both, isnt, judged, _gives_}
-use Rattle.numbers.specs.Put.{over}
+use Rattle.refusals.specs.Rules.{Condition, Rule, says, under, atMost, within, same, either, both, isnt, judged, _gives_}
+use Rattle.refusals.specs.Put.{over}
 use Rattle.ccnet_frame.specs.Frame.{frame, judgeFrame, bodyOf}
 use Rattle.ccnet_frame.specs.Class.{classOf}
+use Rattle.ledger.specs.Calls.{After as AfterCall}
 use Rattle.ccnet_frame.specs.declared.frame.Judged.{Judged}
 use Rattle.ccnet_frame.specs.declared.frame.Judged.the-variants.{Good as Passed, Refused as Failed}
 use Rattle.ccnet_frame.specs.declared.class.Class.{Class}
-use Rattle.ccnet_frame.specs.declared.class.Class.the-variants.{Ack, Nak, Illegal as NotLegal, State, Busy, Rejecting, Failing, Escrow, Stacked, Returned, Unknown}
+use Rattle.ccnet_frame.specs.declared.class.Class.the-variants.{Ack, Nak, Illegal, State, Busy, Rejecting, Failing, Escrow, Stacked, Returned, Unknown}
 use Rattle.validator_rules.specs.Limits.{leastRoom, commandLimit, storeSize, types, longestTick}
 use Rattle.validator_rules.specs.Line.{freshLine, opened, remembers, isOpen, heard, passed}
 use Rattle.validator_rules.specs.Bills.{poll, noBills, bookedBy, credited, remembered}
 use Rattle.validator_rules.specs.declared.line.Line.{Line}
 use Rattle.validator_rules.specs.declared.line.Todo.{Todo}
-use Rattle.validator_rules.specs.declared.line.Todo.the-variants.{Nothing as Rest, Keep, Judge, Damage, Silence}
-use Rattle.ledger.specs.declared.Declined.{Declined}
-use Rattle.ledger.specs.declared.Declined.the-variants.{Room, Range, Open, Unquiet, Spent, Tick}
+use Rattle.validator_rules.specs.declared.line.Todo.the-variants.{Nothing as Rest, CloseDamaged, CloseSilent}
+use Rattle.validator_rules.specs.declared.line.Heard.{Heard}
+use Rattle.validator_rules.specs.declared.line.Heard.the-variants.{Skip, Keep, Judge, Wrong}
+use Rattle.refusals.specs.declared.Declined.{Declined}
+use Rattle.refusals.specs.declared.Declined.the-variants.{Room, Range, Open, Unquiet, Spent, Tick}
 use Rattle.validator_rules.specs.declared.session.Closing.{Closing}
-use Rattle.validator_rules.specs.declared.session.Closing.the-variants.{Nothing, Acknowledged, Refused as GaveUp, Illegal, Answered, Damaged, Silent}
+use Rattle.validator_rules.specs.declared.session.Closing.the-variants.{Nothing, Acknowledged, NotAcknowledged, IllegalCommand, Answered, Damaged, Silent}
 use Rattle.validator_rules.specs.declared.session.Reply.{Reply}
-use Rattle.validator_rules.specs.declared.session.Reply.the-variants.{Refused, Done}
+use Rattle.validator_rules.specs.declared.session.Reply.the-variants.{NotDone, Done}
 use Rattle.validator_rules.specs.declared.session.Found.{Found}
 use Rattle.validator_rules.specs.declared.session.Found.the-variants.{Bad, Good}
 use Rattle.validator_rules.specs.declared.session.Step.{Step}
@@ -44,7 +47,7 @@ abbrev pub stepped : Line → ℕ → Closing → Step
 stepped l n c = record { line = l; bill = types; reply = Done n c }
 
 abbrev pub refusedStep : Line → Declined → Step
-refusedStep l why = record { line = l; bill = types; reply = Refused why }
+refusedStep l why = record { line = l; bill = types; reply = NotDone why }
 
 -- a step, with every byte of the room afterwards
 pub record StepAfter : Type 0 where
@@ -64,10 +67,8 @@ abbrev pub lentAfter : Step → List ℕ → List ℕ → LentAfter
 lentAfter s store r = record { step = s; store = store; room = r }
 
 -- the session, what the call answers, and every byte of the room
-pub record After : Type 0 where
-  pub session : Session
-  pub reply : Reply
-  pub room : List ℕ
+abbrev pub After : Type 0
+After = AfterCall Session Reply
 
 abbrev pub after : Outcome → List ℕ → After
 after o r = record { session = o .session; reply = o .reply; room = r }
@@ -124,8 +125,8 @@ answeredStep l c r =
 -- "ACK, NAK and 'illegal' close without a reply; any other body gets an ACK frame."
 abbrev pub classStep : Class → Line → List ℕ → LentAfter
 classStep Ack l r = closedStep l Acknowledged r
-classStep Nak l r = closedStep l GaveUp r
-classStep NotLegal l r = closedStep l Illegal r
+classStep Nak l r = closedStep l NotAcknowledged r
+classStep Illegal l r = closedStep l IllegalCommand r
 classStep (State b) l r = answeredStep l (State b) r
 classStep (Busy b) l r = answeredStep l (Busy b) r
 classStep (Rejecting b) l r = answeredStep l (Rejecting b) r
@@ -141,25 +142,22 @@ judgedStep (Good c) l r = classStep c l r
 
 -- the frame is the first so many bytes of the store
 unfoldable pub judgeStep : Line → ℕ → List ℕ → List ℕ → LentAfter
-judgeStep l want store r = judgedStep (found (take want store)) l r
+judgeStep l n store r = judgedStep (found (take n store)) l r
 
 -- ---- bytes and ticks
 
--- what the line says is to be done, but for bytes of an answer
+-- what is to be done when time has passed
 abbrev pub acted : Todo → Line → List ℕ → List ℕ → LentAfter
 acted Rest l store r = lentAfter (stepped l 0 Nothing) store r
-acted Keep l store r = lentAfter (stepped l 0 Nothing) store r
-acted Judge l store r = lentAfter (stepped l 0 Nothing) store r
-acted Damage l store r = damagedStep l r
-acted Silence l store r = closedStep l Silent r
+acted CloseDamaged l store r = damagedStep l r
+acted CloseSilent l store r = closedStep l Silent r
 
--- what the line says of a byte b whose place in the store is at, inside an answer of so many bytes
-abbrev pub byteActed : Todo → Line → ℕ → List ℕ → ℕ → ℕ → List ℕ → LentAfter
-byteActed Rest l want store at b r = acted Rest l store r
-byteActed Keep l want store at b r = lentAfter (stepped l 0 Nothing) (set store at b) r
-byteActed Judge l want store at b r = judgeStep l want (set store at b) r
-byteActed Damage l want store at b r = acted Damage l store r
-byteActed Silence l want store at b r = acted Silence l store r
+-- what a byte b leads to whose place in the store is at, inside an answer of n bytes
+abbrev pub byteActed : Heard → Line → ℕ → List ℕ → ℕ → ℕ → List ℕ → LentAfter
+byteActed Skip l n store at b r = lentAfter (stepped l 0 Nothing) store r
+byteActed Keep l n store at b r = lentAfter (stepped l 0 Nothing) (set store at b) r
+byteActed Judge l n store at b r = judgeStep l n (set store at b) r
+byteActed Wrong l n store at b r = damagedStep l r
 
 -- "received bytes 1"
 unfoldable pub byteRefusals : List ℕ → List (Rule Declined)
@@ -168,7 +166,7 @@ byteRefusals r = under (length r) leastRoom gives Room ∷ []
 unfoldable pub byteStep : Line → List ℕ → ℕ → List ℕ → LentAfter
 byteStep l store b r =
     judged (byteRefusals r) (λ why. lentAfter (refusedStep l why) store r)
-    (byteActed (heard l b .todo) (heard l b .line) (l .want) store (l .got) b r)
+    (byteActed (heard l b .heard) (heard l b .line) (l .length) store (l .gathered) b r)
 
 -- "ticks 1 and 6"
 unfoldable pub tickRefusals : ℕ → List ℕ → List (Rule Declined)

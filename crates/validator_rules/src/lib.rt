@@ -4,6 +4,8 @@ mod line;
 mod session;
 
 pub use bills::Bills;
+pub use line::Heard;
+pub use line::Hearing;
 pub use line::Line;
 pub use line::Phase;
 pub use line::Todo;

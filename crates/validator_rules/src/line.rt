@@ -19,26 +19,39 @@ pub struct Line {
     // no such answer.
     pub last: usize,
     // Bytes of an answer gathered.
-    pub got: usize,
-    // How many it has, once its length byte has told.
-    pub want: usize,
+    pub gathered: usize,
+    // The length of the answer: how many bytes it has, once its length byte has told; until then the most that it can have.
+    pub length: usize,
     pub phase: Phase,
 }
 
-// What is to be done now.
+// What is to be done when time has passed.
 pub enum Todo {
     Nothing,
-    // Keep the byte in the gathering store.
-    Keep,
-    // Keep it, and judge the frame, which is full.
-    Judge,
     // Send NAK, and close as damaged.
-    Damage,
+    CloseDamaged,
     // Close as silent.
-    Silence,
+    CloseSilent,
 }
 
 pub struct Turn {
     pub line: Line,
     pub todo: Todo,
+}
+
+// What a byte is. One enum without data, and not one that holds a `Todo`: that would cost a replay of polls a fifth of its time.
+pub enum Heard {
+    // No byte of an answer.
+    Skip,
+    // A byte of an answer, to be kept in the gathering store.
+    Keep,
+    // The last one: it is kept, and the frame is judged.
+    Judge,
+    // A wrong address or length byte: send NAK, and close as damaged.
+    Wrong,
+}
+
+pub struct Hearing {
+    pub line: Line,
+    pub heard: Heard,
 }

@@ -5,7 +5,7 @@ use crate::bills::Bills;
 use crate::line::Line;
 use crate::line::Phase;
 use ccnet_frame::Class;
-use ledger::Declined;
+use refusals::Declined;
 
 // How a call closed the open command, if it did.
 pub enum Closing {
@@ -13,9 +13,8 @@ pub enum Closing {
     // By ACK.
     Acknowledged,
     // By NAK.
-    Refused,
-    // As an illegal command.
-    Illegal,
+    NotAcknowledged,
+    IllegalCommand,
     // With what the answer's body says.
     Answered(Class),
     Damaged,
@@ -24,7 +23,7 @@ pub enum Closing {
 
 // What a call answers: why it was declined, or how many bytes it put at the room's start and which closing it made.
 pub enum Reply {
-    Refused(Declined),
+    NotDone(Declined),
     Done { put: usize, closing: Closing },
 }
 
@@ -83,8 +82,8 @@ impl Session {
                 accepted: 0,
                 code: 0,
                 last: Session::TYPES,
-                got: 0,
-                want: 0,
+                gathered: 0,
+                length: 0,
                 phase: Phase::Idle,
             },
             bills: [Bills(0); 24],

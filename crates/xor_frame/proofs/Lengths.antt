@@ -4,7 +4,7 @@ use mathlib.Core.Path.{_≡_, refl}
 use mathlib.Core.Bool.{Bool, true, false, cond}
 use mathlib.Core.List.{List}
 use native.Mathlib.Omega.{arith}
-use Rattle.numbers.specs.Rules.{Condition}
+use Rattle.refusals.specs.Rules.{Condition}
 use Rattle.xor_frame.specs.Layout.{Field, sizes}
 use Rattle.xor_frame.specs.Frame.{lengthWith}
 

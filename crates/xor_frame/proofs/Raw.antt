@@ -9,8 +9,8 @@ use lib.Dec.{leb}
 use lib.ListN.{length, take, drop, getD, length-drop}
 use lib.Seq.{length-take-le}
 use borrow.Author.Tests.{lt-leb, le-leb, le-ltb, lt-ltb}
-use Rattle.numbers.specs.Rules.{within, under, atMost, judged}
-use Rattle.numbers.proofs.Rules.{holds-true, by-cases, certain}
+use Rattle.refusals.specs.Rules.{within, under, atMost, judged}
+use Rattle.refusals.proofs.Rules.{holds-true, by-cases, certain}
 use Rattle.numbers.specs.Decimal.{digitsOnly, number, readDigits}
 use Rattle.numbers.specs.declared.Number.{Number}
 use Rattle.numbers.specs.declared.Number.the-variants.{Of, NoNumber}

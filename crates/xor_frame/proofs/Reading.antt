@@ -7,8 +7,8 @@ use native.Mathlib.Omega.{arith}
 use lib.Dec.{eqb}
 use lib.ListN.{length}
 use borrow.Author.Tests.{le-ltb, ne-eqb}
-use Rattle.numbers.specs.Rules.{Condition, judged, NoneOf, same}
-use Rattle.numbers.proofs.Rules.{exactly, certain}
+use Rattle.refusals.specs.Rules.{Condition, judged, NoneOf, same}
+use Rattle.refusals.proofs.Rules.{exactly, certain}
 use Rattle.xor_frame.specs.Layout.{Field, sizes}
 use Rattle.xor_frame.specs.Frame.{codeOf, lengthWith, faults}
 use Rattle.xor_frame.specs.Parts.{outerFaults, fieldFaults}

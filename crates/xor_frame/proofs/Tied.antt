@@ -4,7 +4,7 @@ use Prim.Native.Nat.{ℕ}
 use mathlib.Core.Path.{ap₂}
 use mathlib.Core.List.{List}
 use denote.Ref.{now}
-use Rattle.numbers.proofs.Tied.{Tied, tied}
+use Rattle.refusals.proofs.Tied.{Tied, tied}
 use Rattle.xor_frame.proofs.frame.Fault.number.Kinds as fault-number
 use Rattle.xor_frame.proofs.frame.Fault.number.Reads as fault-number-reads
 use Rattle.xor_frame.proofs.frame.both.Kinds as both

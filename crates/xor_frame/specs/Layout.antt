@@ -2,7 +2,7 @@
 use Prim.Native.Nat.{ℕ, _+_, _-_}
 use mathlib.Core.List.{List, [], _∷_, _++_}
 use lib.ListN.{getD, take, drop}
-use Rattle.numbers.specs.Rules.{Condition, always, never, both, atMost, within}
+use Rattle.refusals.specs.Rules.{Condition, always, never, both, atMost, within}
 use Rattle.numbers.specs.Decimal.{digits, digitsOnly, number}
 
 -- a field from low to high: a count, "two ASCII digits, tens first"; a byte; or a count in one byte, "the value plus 20h"

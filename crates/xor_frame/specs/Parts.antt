@@ -4,10 +4,10 @@ use mathlib.Core.Bool.{cond}
 use mathlib.Core.List.{List, [], _∷_}
 use lib.Dec.{ltb}
 use lib.ListN.{length, getD, take, drop}
-use Rattle.numbers.specs.Rules.{Rule, same, isnt, _gives_}
+use Rattle.refusals.specs.Rules.{Rule, same, isnt, _gives_}
 use Rattle.numbers.specs.Decimal.{digitOf, digitsOnly, number}
 use Rattle.xor_frame.specs.Layout.{Field, allFit}
-use Rattle.xor_frame.specs.Frame.{check, opened}
+use Rattle.xor_frame.specs.Frame.{etx, check, opened}
 use Rattle.xor_frame.specs.declared.frame.Digits.{Digits}
 use Rattle.xor_frame.specs.declared.frame.Fault.{Fault}
 use Rattle.xor_frame.specs.declared.frame.Fault.the-variants.{Length, Opening, Code, Closing, Check, Field as Outside}
@@ -17,7 +17,7 @@ abbrev pub codeFaults : ℕ → List ℕ → List (Rule Fault)
 codeFaults n s =
     same n 0 gives Code
     ∷ isnt (same (length s) n) gives Length
-    ∷ isnt (same (getD s (length s - 2) 0) 0x03) gives Closing
+    ∷ isnt (same (getD s (length s - 2) 0) etx) gives Closing
     ∷ isnt (same (check (take (length s - 1) s)) (getD s (length s - 1) 0)) gives Check
     ∷ []
 

@@ -3,13 +3,23 @@ ghost use mathlib.Core.Path.{_≡_};
 ghost use mathlib.Core.Bool.{_&&_};
 ghost use Prim.Native.Nat.{_+_, _≤_, _<_};
 ghost use lib.ListN.{length};
-ghost use Rattle.numbers.specs.Rules.{judged};
-ghost use Rattle.numbers.specs.Put.{over};
+ghost use Rattle.refusals.specs.Rules.{judged};
+ghost use Rattle.refusals.specs.Put.{over};
 ghost use Rattle.xor_frame.specs.Frame.{check, closed, faultNumber};
 ghost use Rattle.xor_frame.specs.Parts.{twoDigits, countAt, outerFaults, codeFaults};
 use numbers::Number;
 use numbers::digit;
 use numbers::read_digits;
+
+// The fixed bytes of a frame, by the makers' names: EOT opens a command and SOH an answer, STX stands before the code and ETX closes the
+// fields.
+pub const EOT: u8 = 0x04;
+
+pub const SOH: u8 = 0x01;
+
+pub const STX: u8 = 0x02;
+
+pub const ETX: u8 = 0x03;
 
 // Why a reader refuses a frame.
 pub enum Fault {
@@ -33,11 +43,11 @@ impl Fault {
         ensures { λ r. ⌜ r ≡ faultNumber self ⌝ }
     {
         match self {
-            Fault::Length => 11,
-            Fault::Opening => 12,
-            Fault::Code => 13,
-            Fault::Closing => 14,
-            Fault::Check => 15,
+            Fault::Length => refusals::LENGTH,
+            Fault::Opening => refusals::OPENING,
+            Fault::Code => refusals::CODE,
+            Fault::Closing => refusals::CLOSING,
+            Fault::Check => refusals::CHECK,
             Fault::Field => 16,
         }
     }
@@ -86,7 +96,7 @@ pub fn judge(s: &[u8], first: u8, id: u8, n: usize) -> Verdict
     requires { ⌜ 6 ≤ length (now s) ⌝ }
     ensures { λ r. ⌜ r ≡ judged (outerFaults first id n (now (s .entry))) Verdict.Bad Verdict.Good ⌝ }
 {
-    if both(s[0] == first, both(s[1] == id, s[2] == 0x02)) {
+    if both(s[0] == first, both(s[1] == id, s[2] == STX)) {
         return judge_code(s, n);
     }
     Verdict::Bad(Fault::Opening)
@@ -104,7 +114,7 @@ fn judge_code(s: &[u8], n: usize) -> Verdict
     if end != n {
         return Verdict::Bad(Fault::Length);
     }
-    if s[end - 2] != 0x03 {
+    if s[end - 2] != ETX {
         return Verdict::Bad(Fault::Closing);
     }
     let last = end - 1;
@@ -135,8 +145,8 @@ pub fn two_digits(n: u32) -> Digits
     ensures { λ r. ⌜ r ≡ twoDigits n ⌝ }
 {
     Digits {
-        tens: digit(n / 10),
-        ones: digit(n),
+        tens: digit((n / 10) as u64),
+        ones: digit(n as u64),
     }
 }
 

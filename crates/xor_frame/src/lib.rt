@@ -3,7 +3,11 @@
 mod frame;
 
 pub use frame::Digits;
+pub use frame::EOT;
+pub use frame::ETX;
 pub use frame::Fault;
+pub use frame::SOH;
+pub use frame::STX;
 pub use frame::Verdict;
 pub use frame::both;
 pub use frame::count;

@@ -31,13 +31,13 @@ shared-slice-read-byte c = search needs
 byte-requires : tie.Need-byte-requires Inv-loop μ-loop
 byte-requires c κs = search needs
 
-enum-known-heard : tie.Need-enum-known-heard Inv-loop μ-loop
-enum-known-heard c = search needs
+enum-known-outcome : tie.Need-enum-known-outcome Inv-loop μ-loop
+enum-known-outcome c = search needs
 
 returns-2 : tie.Need-returns-2 Inv-loop μ-loop
 returns-2 c =
     let turn = c .before .before .before .before .before .before .loop in
-    let is = reading-bad (turn .reader) _ (turn .i) (c .before .before .before .before .before .loop-test .taken) (c .before .before .before .byte .result) (c .before .before .before .byte .ensures) (c .before .heard .given .1) in
+    let is = reading-bad (turn .reader) _ (turn .i) (c .before .before .before .before .before .loop-test .taken) (c .before .before .before .byte .result) (c .before .before .before .byte .ensures) (c .before .outcome .given .1) in
     sym (ap verdictOf is) ∙ turn .inv .1
 
 add-i : tie.Need-add-i Inv-loop μ-loop
@@ -72,7 +72,7 @@ judge-spec =
     loop-holds
     shared-slice-read-byte
     byte-requires
-    enum-known-heard
+    enum-known-outcome
     returns-2
     add-i
     loop-less

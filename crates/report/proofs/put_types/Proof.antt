@@ -2,7 +2,7 @@
 use mathlib.Core.Path.{_≡_}
 use Prim.Native.Nat.{_+_, _*_, _-_, _≤_}
 use lib.ListN.{length, take}
-use Rattle.report.specs.Text.{Adds}
+use Rattle.report.specs.Scaffolding.{Adds}
 use Rattle.report.specs.Report.{lines, typeLines}
 use Rattle.report.proofs.Lines.{types-begin, types-next, types-all}
 use borrow.Author.Needs.{needs}

@@ -1,6 +1,6 @@
 -- `report::report` meets its contract. Assumes nothing.
 use mathlib.Core.Path.{ap, _∙_}
-use Rattle.numbers.specs.Put.{writing}
+use Rattle.refusals.specs.Put.{writing}
 use Rattle.report.specs.Report.{reportText, reportOf}
 use borrow.Author.Needs.{needs}
 use Rattle.report.proofs.report.Statement.{statement}

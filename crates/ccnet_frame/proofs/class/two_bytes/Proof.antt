@@ -1,6 +1,6 @@
 -- `ccnet_frame::class::two_bytes` meets its contract: the first byte tells which rule can apply. Assumes nothing.
 use mathlib.Core.Path.{_∙_}
-use Rattle.numbers.proofs.Rules.{tests}
+use Rattle.refusals.proofs.Rules.{tests}
 use Rattle.ccnet_frame.specs.Class.{twoBytes}
 use borrow.Author.Needs.{needs}
 use Rattle.ccnet_frame.proofs.class.two_bytes.Statement.{statement}

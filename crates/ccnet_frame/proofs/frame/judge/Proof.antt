@@ -2,7 +2,7 @@
 use mathlib.Core.Path.{sym}
 use lib.Seq.{length-take-le}
 use borrow.Author.Tests.{le-ltb, eq-eqb, ne-eqb}
-use Rattle.numbers.proofs.Rules.{tests}
+use Rattle.refusals.proofs.Rules.{tests}
 use Rattle.ccnet_frame.specs.Frame.{judgeFrame, faults}
 use native.Mathlib.Omega.{arith}
 use borrow.Author.Needs.{needs}

@@ -1,5 +1,5 @@
 -- `ccnet_frame::frame::plan` meets its contract: each return is at the first rule that applies. Assumes nothing.
-use Rattle.numbers.proofs.Rules.{tests}
+use Rattle.refusals.proofs.Rules.{tests}
 use Rattle.ccnet_frame.specs.Parts.{planned}
 use borrow.Author.Needs.{needs}
 use Rattle.ccnet_frame.proofs.frame.plan.Statement.{statement}

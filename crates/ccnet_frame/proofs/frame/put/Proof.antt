@@ -6,8 +6,8 @@ use Prim.Native.Nat.{_-_, _≤_, _<_}
 use native.Mathlib.Numerals.{add-one}
 use lib.ListN.{length, take, drop, length-set}
 use lib.Seq.{drop-cons}
-use Rattle.numbers.specs.Put.{over}
-use Rattle.numbers.proofs.Writing.{over-one}
+use Rattle.refusals.specs.Put.{over}
+use Rattle.refusals.proofs.Writing.{over-one}
 use Rattle.ccnet_frame.specs.Check.{checkFrom}
 use Rattle.ccnet_frame.proofs.Checks.{check-next, check-end}
 use Rattle.ccnet_frame.proofs.Laying.{over-end}

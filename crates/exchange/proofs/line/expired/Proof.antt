@@ -14,14 +14,14 @@ waits-requires c κs = search needs
 enum-told-2 : tie.Need-enum-told-2
 enum-told-2 c = search needs
 
-lost-requires : tie.Need-lost-requires
-lost-requires c κs = search needs
+closed-unknown-requires : tie.Need-closed-unknown-requires
+closed-unknown-requires c κs = search needs
 
 enum-told-3 : tie.Need-enum-told-3
 enum-told-3 c = search needs
 
-lost-requires-2 : tie.Need-lost-requires-2
-lost-requires-2 c κs = search needs
+closed-unknown-requires-2 : tie.Need-closed-unknown-requires-2
+closed-unknown-requires-2 c κs = search needs
 
 enum-told-4 : tie.Need-enum-told-4
 enum-told-4 c = search needs
@@ -35,11 +35,11 @@ returns c = rw (c .waits .ensures) (sym (ap (λ p. expiredIn p (c .before .befor
 
 returns-2 : tie.Need-returns-2
 unfolding expired
-returns-2 c = c .lost .ensures ∙ sym (ap (λ p. expiredIn p (c .before .before .before .args .was)) (c .before .enum-told2 .given .1))
+returns-2 c = c .closed-unknown .ensures ∙ sym (ap (λ p. expiredIn p (c .before .before .before .args .was)) (c .before .enum-told2 .given .1))
 
 returns-3 : tie.Need-returns-3
 unfolding expired
-returns-3 c = c .lost2 .ensures ∙ sym (ap (λ p. expiredIn p (c .before .before .before .args .was)) (c .before .enum-told3 .given .1))
+returns-3 c = c .closed-unknown2 .ensures ∙ sym (ap (λ p. expiredIn p (c .before .before .before .args .was)) (c .before .enum-told3 .given .1))
 
 returns-4 : tie.Need-returns-4
 unfolding expired
@@ -52,9 +52,9 @@ expired-spec =
     enum-told
     waits-requires
     enum-told-2
-    lost-requires
+    closed-unknown-requires
     enum-told-3
-    lost-requires-2
+    closed-unknown-requires-2
     enum-told-4
     bad-requires
     returns

@@ -29,12 +29,12 @@ returns-3 : tie.Need-returns-3
 unfolding firstByte
 returns-3 c = simp (c .closed .ensures, ne-eqb _ _ (c .before .before .before .before .if1 .left), eq-eqb _ _ (c .before .before .before .if2 .taken), le-ltb _ _ (c .before .if3 .left))
 
-lost-requires : tie.Need-lost-requires
-lost-requires c κs = search needs
+closed-requires-2 : tie.Need-closed-requires-2
+closed-requires-2 c κs = search needs
 
 returns-4 : tie.Need-returns-4
 unfolding firstByte
-returns-4 c = simp (ne-eqb _ _ (c .before .before .if1 .left), ne-eqb _ _ (c .before .if2 .left)) (c .lost .ensures)
+returns-4 c = simp (c .closed2 .ensures, ne-eqb _ _ (c .before .before .if1 .left), ne-eqb _ _ (c .before .if2 .left))
 
 pub first-spec : {M : Type 1} → statement M
 first-spec =
@@ -47,5 +47,5 @@ first-spec =
     returns-2
     closed-requires
     returns-3
-    lost-requires
+    closed-requires-2
     returns-4)

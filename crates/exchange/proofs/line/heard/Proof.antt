@@ -31,19 +31,19 @@ gather-requires c κs = search needs
 
 returns : tie.Need-returns
 unfolding heard
-returns c = rw (c .waits .ensures) (sym (ap (λ p. heardIn p (c .before .before .before .args .was) (c .before .before .before .args .want) (c .before .before .before .args .b)) (c .before .enum-told .given .1)))
+returns c = rw (c .waits .ensures) (sym (ap (λ p. heardIn p (c .before .before .before .args .was) (c .before .before .before .args .span) (c .before .before .before .args .b)) (c .before .enum-told .given .1)))
 
 returns-2 : tie.Need-returns-2
 unfolding heard
-returns-2 c = c .first .ensures ∙ sym (ap (λ p. heardIn p (c .before .before .before .args .was) (c .before .before .before .args .want) (c .before .before .before .args .b)) (c .before .enum-told2 .given .1))
+returns-2 c = c .first .ensures ∙ sym (ap (λ p. heardIn p (c .before .before .before .args .was) (c .before .before .before .args .span) (c .before .before .before .args .b)) (c .before .enum-told2 .given .1))
 
 returns-3 : tie.Need-returns-3
 unfolding heard
-returns-3 c = c .start .ensures ∙ sym (ap (λ p. heardIn p (c .before .before .before .args .was) (c .before .before .before .args .want) (c .before .before .before .args .b)) (c .before .enum-told3 .given .1))
+returns-3 c = c .start .ensures ∙ sym (ap (λ p. heardIn p (c .before .before .before .args .was) (c .before .before .before .args .span) (c .before .before .before .args .b)) (c .before .enum-told3 .given .1))
 
 returns-4 : tie.Need-returns-4
 unfolding heard
-returns-4 c = c .gather .ensures ∙ sym (ap (λ p. heardIn p (c .before .before .before .args .was) (c .before .before .before .args .want) (c .before .before .before .args .b)) (c .before .enum-told4 .given .1))
+returns-4 c = c .gather .ensures ∙ sym (ap (λ p. heardIn p (c .before .before .before .args .was) (c .before .before .before .args .span) (c .before .before .before .args .b)) (c .before .enum-told4 .given .1))
 
 pub heard-spec : {M : Type 1} → statement M
 heard-spec =

@@ -1,7 +1,7 @@
 -- `grading::desk::commanded` meets its contract. Assumes nothing.
 use Rattle.validator_rules.specs.Session.{sessionRequest}
 use Rattle.validator_rules.specs.Bills.{bookedBy}
-use Rattle.grading.specs.Replay.{joined}
+use Rattle.grading.specs.Scaffolding.{joined}
 use Rattle.grading.proofs.Steps.{by-request}
 use borrow.Author.Needs.{needs}
 use Rattle.grading.proofs.desk.commanded.Statement.{statement}
@@ -13,8 +13,8 @@ slice-aggregate-step-request c = search needs
 step-request-requires : tie.Need-step-request-requires
 step-request-requires c κs = search needs
 
-is-declined-too-requires : tie.Need-is-declined-too-requires
-is-declined-too-requires c κs = search needs
+taker-declines-requires : tie.Need-taker-declines-requires
+taker-declines-requires c κs = search needs
 
 counted-requires : tie.Need-counted-requires
 counted-requires c κs = search needs
@@ -28,9 +28,9 @@ assembled-requires c κs = search needs
 returns : tie.Need-returns
 unfolding sessionRequest bookedBy
 returns c =
-    λ a bs store second room.
+    λ a bs store store255 room.
     let args = c .before .before .before .before .before .before .before .before .before .before .before .args in
-    simp (c .assembled .ensures, c .before .before .counted .ensures, c .before .before .before .is-declined-too .ensures) (by-request (joined (args .run) a bs store second room (args .wide .now)) (c .before .before .before .before .before .step-request .ensures))
+    simp (c .assembled .ensures, c .before .before .counted .ensures, c .before .before .before .taker-declines .ensures) (by-request (joined (args .run) a bs store store255 room (args .room255 .now)) (c .before .before .before .before .before .step-request .ensures))
 
 pub commanded-spec : {M : Type 1} → statement M
 commanded-spec =
@@ -38,7 +38,7 @@ commanded-spec =
     (tie.spec
     slice-aggregate-step-request
     step-request-requires
-    is-declined-too-requires
+    taker-declines-requires
     counted-requires
     add-records
     assembled-requires

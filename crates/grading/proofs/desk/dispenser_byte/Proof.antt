@@ -8,8 +8,8 @@ use Rattle.grading.proofs.desk.dispenser_byte.Tie as tie
 step-byte-requires : tie.Need-step-byte-requires
 step-byte-requires c κs = search needs
 
-is-declined-requires : tie.Need-is-declined-requires
-is-declined-requires c κs = search needs
+payer-declines-requires : tie.Need-payer-declines-requires
+payer-declines-requires c κs = search needs
 
 counted-requires : tie.Need-counted-requires
 counted-requires c κs = search needs
@@ -22,8 +22,8 @@ assembled-requires c κs = search needs
 
 returns : tie.Need-returns
 unfolding sessionByte bookedBy
-returns c = λ a bs second wide. simp (c .assembled .ensures, ← c .before .before .before .before .before .step-byte .ensures, c .before .before .counted .ensures, c .before .before .before .is-declined .ensures)
+returns c = λ a bs store255 room255. simp (c .assembled .ensures, ← c .before .before .before .before .before .step-byte .ensures, c .before .before .counted .ensures, c .before .before .before .payer-declines .ensures)
 
 pub dispenser-byte-spec : {M : Type 1} → statement M
 dispenser-byte-spec =
-    tie.close (tie.spec step-byte-requires is-declined-requires counted-requires add-records assembled-requires returns)
+    tie.close (tie.spec step-byte-requires payer-declines-requires counted-requires add-records assembled-requires returns)

@@ -4,9 +4,10 @@ use mathlib.Core.Path.{_≡_, _∙_}
 use Prim.Native.Nat.{_-_, _≤_}
 use lib.ListN.{length, drop}
 use Rattle.dispenser_rules.specs.Session.{freshSession}
-use Rattle.validator_rules.specs.Session.{freshSession as freshToo}
+use Rattle.validator_rules.specs.Session.{freshSession as freshTaker}
 use Rattle.recording.specs.Reading.{freshReader, readingFrom}
-use Rattle.grading.specs.Replay.{freshDesk, replayed, replayOf, joined}
+use Rattle.grading.specs.Replay.{freshDesk, replayed, replayOf}
+use Rattle.grading.specs.Scaffolding.{joined}
 use Rattle.grading.proofs.Loops.{gives, further, breaks, ends, counts, joins, no-bill, long, short}
 use borrow.Author.Needs.{needs}
 use native.Mathlib.Omega.{arith}
@@ -14,12 +15,12 @@ use Rattle.grading.proofs.desk.replay.Statement.{statement}
 use Rattle.grading.proofs.desk.replay.Tie as tie
 
 abbrev Inv-loop : tie.InvT-loop
-Inv-loop recording run₀ account₀ bills₀ store₀ second₀ room₀ wide₀ i₀ run account bills store second room wide i =
+Inv-loop recording run₀ account₀ bills₀ store₀ second₀ room₀ wide₀ i₀ run account bills store store255 room room255 i =
     (i ≤ length recording) × (length recording ≤ 65_536) × (run .declined ≤ run .records) × (run .records ≤ i)
-    × (replayed (joined run account bills store second room wide) (readingFrom freshReader i (drop i recording)) ≡ replayOf recording)
+    × (replayed (joined run account bills store store255 room room255) (readingFrom freshReader i (drop i recording)) ≡ replayOf recording)
 
 abbrev μ-loop : tie.MeasureT-loop
-μ-loop recording run₀ account₀ bills₀ store₀ second₀ room₀ wide₀ i₀ run account bills store second room wide i = length recording - i
+μ-loop recording run₀ account₀ bills₀ store₀ second₀ room₀ wide₀ i₀ run account bills store store255 room room255 i = length recording - i
 
 bad-requires : tie.Need-bad-requires Inv-loop μ-loop
 bad-requires c κs = search needs
@@ -34,7 +35,7 @@ fresh-requires-2 : tie.Need-fresh-requires-2 Inv-loop μ-loop
 fresh-requires-2 c κs = search needs
 
 loop-holds : tie.Need-loop-holds Inv-loop μ-loop
-unfolding freshDesk freshSession freshToo
+unfolding freshDesk freshSession freshTaker
 loop-holds c =
     let h = c .before .before .before .before .before .before .before .before .before .if1 .left in (
       search needs,
@@ -91,7 +92,7 @@ loop-again c =
     let inv = turn .inv in
     let h = c .before .before .before .before .before .before .before .before .before .before .before .before .before .before .loop-test .taken in
     let g = c .before .before .before .before .before .step .ensures (turn .account) (turn .bills) in
-    let d = joined (turn .run) (turn .account) (turn .bills) (turn .store) (turn .second) (turn .room) (turn .wide) in
+    let d = joined (turn .run) (turn .account) (turn .bills) (turn .store) (turn .store255) (turn .room) (turn .room255) in
     let x = c .before .before .before .before .before .before .before .before .before .before .before .found2 .given .0 .0 in
     let size = c .before .before .before .before .before .before .before .before .before .before .before .found2 .given .0 .1 .0 in
     let told = c .before .before .before .before .before .before .before .before .before .before .before .found2 .given .1 in
@@ -116,7 +117,7 @@ loop-again-2 c =
     let inv = turn .inv in
     let h = c .before .before .before .before .before .before .before .before .before .before .before .before .before .loop-test .taken in
     let g = c .before .before .before .before .step .ensures (turn .account) (turn .bills) in
-    let d = joined (turn .run) (turn .account) (turn .bills) (turn .store) (turn .second) (turn .room) (turn .wide) in
+    let d = joined (turn .run) (turn .account) (turn .bills) (turn .store) (turn .store255) (turn .room) (turn .room255) in
     let x = c .before .before .before .before .before .before .before .before .before .before .found2 .given .0 .0 in
     let size = c .before .before .before .before .before .before .before .before .before .before .found2 .given .0 .1 .0 in
     let told = c .before .before .before .before .before .before .before .before .before .before .found2 .given .1 in
@@ -138,7 +139,7 @@ cast-records c = let end = c .before .before .before .loop in record { fits = om
 returns-3 : tie.Need-returns-3 Inv-loop μ-loop
 returns-3 c =
     let end = c .before .before .before .loop in
-    ends _ (end .i) (c .before .before .loop-test .left) (joined (end .run) (end .account) (end .bills) (end .store) (end .second) (end .room) (end .wide)) (end .inv .4)
+    ends _ (end .i) (c .before .before .loop-test .left) (joined (end .run) (end .account) (end .bills) (end .store) (end .store255) (end .room) (end .room255)) (end .inv .4)
 
 pub replay-spec : {M : Type 1} → statement M
 replay-spec =

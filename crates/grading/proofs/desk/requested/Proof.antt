@@ -8,8 +8,8 @@ use Rattle.grading.proofs.desk.requested.Tie as tie
 step-request-requires : tie.Need-step-request-requires
 step-request-requires c κs = search needs
 
-is-declined-requires : tie.Need-is-declined-requires
-is-declined-requires c κs = search needs
+payer-declines-requires : tie.Need-payer-declines-requires
+payer-declines-requires c κs = search needs
 
 counted-requires : tie.Need-counted-requires
 counted-requires c κs = search needs
@@ -22,9 +22,9 @@ assembled-requires c κs = search needs
 
 returns : tie.Need-returns
 unfolding sessionRequest bookedBy
-returns c = λ a bs store second wide. simp (c .assembled .ensures, ← c .before .before .before .before .before .before .step-request .ensures, c .before .before .counted .ensures, c .before .before .before .is-declined .ensures)
+returns c = λ a bs store store255 room255. simp (c .assembled .ensures, ← c .before .before .before .before .before .before .step-request .ensures, c .before .before .counted .ensures, c .before .before .before .payer-declines .ensures)
 
 pub requested-spec : {M : Type 1} → statement M
 requested-spec =
     tie.close
-    (tie.spec step-request-requires is-declined-requires counted-requires add-records assembled-requires returns)
+    (tie.spec step-request-requires payer-declines-requires counted-requires add-records assembled-requires returns)

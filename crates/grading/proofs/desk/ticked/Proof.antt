@@ -1,7 +1,7 @@
 -- `grading::desk::ticked` meets its contract. Assumes nothing.
 use Rattle.dispenser_rules.specs.Session.{sessionTick}
-use Rattle.validator_rules.specs.Session.{sessionTick as tickToo}
-use Rattle.grading.specs.Replay.{joined}
+use Rattle.validator_rules.specs.Session.{sessionTick as takerTick}
+use Rattle.grading.specs.Scaffolding.{joined}
 use Rattle.grading.proofs.Steps.{by-tick}
 use borrow.Author.Needs.{needs}
 use native.Mathlib.Omega.{arith}
@@ -14,11 +14,11 @@ step-tick-requires c κs = search needs
 step-tick-requires-2 : tie.Need-step-tick-requires-2
 step-tick-requires-2 c κs = search needs
 
-is-declined-requires : tie.Need-is-declined-requires
-is-declined-requires c κs = search needs
+payer-declines-requires : tie.Need-payer-declines-requires
+payer-declines-requires c κs = search needs
 
-is-declined-too-requires : tie.Need-is-declined-too-requires
-is-declined-too-requires c κs = search needs
+taker-declines-requires : tie.Need-taker-declines-requires
+taker-declines-requires c κs = search needs
 
 either-requires : tie.Need-either-requires
 either-requires c κs = search needs
@@ -33,12 +33,12 @@ assembled-requires : tie.Need-assembled-requires
 assembled-requires c κs = search needs
 
 returns : tie.Need-returns
-unfolding sessionTick tickToo
+unfolding sessionTick takerTick
 returns c =
     λ a bs store.
     let args = c .before .before .before .before .before .before .before .before .before .before .before .before .before .before .before .before .args in
-    simp (c .assembled .ensures, c .before .before .counted .ensures, c .before .before .before .either .ensures, c .before .before .before .before .is-declined-too .ensures, c .before .before .before .before .before .is-declined .ensures)
-    (by-tick (joined (args .run) a bs store (args .second .now) (args .room .now) (args .wide .now)) (c .before .before .before .before .before .before .before .before .before .before .before .step-tick .ensures) (c .before .before .before .before .before .before .before .step-tick2 .ensures))
+    simp (c .assembled .ensures, c .before .before .counted .ensures, c .before .before .before .either .ensures, c .before .before .before .before .taker-declines .ensures, c .before .before .before .before .before .payer-declines .ensures)
+    (by-tick (joined (args .run) a bs store (args .store255 .now) (args .room .now) (args .room255 .now)) (c .before .before .before .before .before .before .before .before .before .before .before .step-tick .ensures) (c .before .before .before .before .before .before .before .step-tick2 .ensures))
 
 pub ticked-spec : {M : Type 1} → statement M
 ticked-spec =
@@ -46,8 +46,8 @@ ticked-spec =
     (tie.spec
     step-tick-requires
     step-tick-requires-2
-    is-declined-requires
-    is-declined-too-requires
+    payer-declines-requires
+    taker-declines-requires
     either-requires
     counted-requires
     add-records

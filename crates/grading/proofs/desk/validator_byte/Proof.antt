@@ -1,6 +1,6 @@
 -- `grading::desk::validator_byte` meets its contract. Assumes nothing.
 use Rattle.validator_rules.specs.Session.{sessionByte}
-use Rattle.grading.specs.Replay.{joined}
+use Rattle.grading.specs.Scaffolding.{joined}
 use Rattle.grading.proofs.Steps.{by-byte}
 use borrow.Author.Needs.{needs}
 use Rattle.grading.proofs.desk.validator_byte.Statement.{statement}
@@ -9,8 +9,8 @@ use Rattle.grading.proofs.desk.validator_byte.Tie as tie
 step-byte-requires : tie.Need-step-byte-requires
 step-byte-requires c κs = search needs
 
-is-declined-too-requires : tie.Need-is-declined-too-requires
-is-declined-too-requires c κs = search needs
+taker-declines-requires : tie.Need-taker-declines-requires
+taker-declines-requires c κs = search needs
 
 counted-requires : tie.Need-counted-requires
 counted-requires c κs = search needs
@@ -26,9 +26,9 @@ unfolding sessionByte
 returns c =
     λ a bs store room.
     let args = c .before .before .before .before .before .before .before .before .before .before .before .args in
-    simp (c .assembled .ensures, c .before .before .counted .ensures, c .before .before .before .is-declined-too .ensures) (by-byte (joined (args .run) a bs store (args .second .now) room (args .wide .now)) (c .before .before .before .before .before .step-byte .ensures))
+    simp (c .assembled .ensures, c .before .before .counted .ensures, c .before .before .before .taker-declines .ensures) (by-byte (joined (args .run) a bs store (args .store255 .now) room (args .room255 .now)) (c .before .before .before .before .before .step-byte .ensures))
 
 pub validator-byte-spec : {M : Type 1} → statement M
 validator-byte-spec =
     tie.close
-    (tie.spec step-byte-requires is-declined-too-requires counted-requires add-records assembled-requires returns)
+    (tie.spec step-byte-requires taker-declines-requires counted-requires add-records assembled-requires returns)

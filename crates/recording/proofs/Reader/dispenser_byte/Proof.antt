@@ -1,6 +1,6 @@
 -- `recording::Reader::dispenser_byte` meets its contract. Assumes nothing.
 use Rattle.recording.specs.Reading.{byteRead}
-use Rattle.numbers.proofs.Rules.{tests}
+use Rattle.refusals.proofs.Rules.{tests}
 use borrow.Author.Needs.{needs}
 use Rattle.recording.proofs.Reader.dispenser_byte.Statement.{statement}
 use Rattle.recording.proofs.Reader.dispenser_byte.Tie as tie

@@ -1,8 +1,9 @@
 -- `recording::Reader::kind` meets its contract, kind by kind. Assumes nothing.
 use Prim.Native.Nat.{_<_}
-use borrow.Author.Tests.{lt-ltb}
+use mathlib.Core.Path.{sym, _∙_}
 use native.Mathlib.Omega.{arith}
 use Rattle.recording.specs.Reading.{kindByte}
+use Rattle.recording.proofs.Places.{other-kind}
 use borrow.Author.Needs.{needs}
 use Rattle.recording.proofs.Reader.kind.Statement.{statement}
 use Rattle.recording.proofs.Reader.kind.Tie as tie
@@ -61,10 +62,9 @@ refused-requires : tie.Need-refused-requires
 refused-requires c κs = search needs
 
 returns-6 : tie.Need-returns-6
-unfolding kindByte
 returns-6 c =
     let other : 4 < c .before .before .before .before .before .before .args .b = omega (arith, c .before .if5 .left, c .before .before .if4 .left, c .before .before .before .if3 .left, c .before .before .before .before .if2 .left, c .before .before .before .before .before .if1 .left) in
-    simp (c .refused .ensures, lt-ltb 4 _ other)
+    c .refused .ensures ∙ sym (other-kind _ _ (λ z. omega arith))
 
 pub kind-spec : {M : Type 1} → statement M
 kind-spec =

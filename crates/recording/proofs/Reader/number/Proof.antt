@@ -57,6 +57,12 @@ enum-told-8 c = search needs
 command-requires : tie.Need-command-requires
 command-requires c κs = search needs
 
+enum-known-p : tie.Need-enum-known-p
+enum-known-p c = search needs
+
+refused-requires : tie.Need-refused-requires
+refused-requires c κs = search needs
+
 returns : tie.Need-returns
 returns c = simp (c .before .enum-told .given .1, c .more .ensures)
 
@@ -81,6 +87,9 @@ returns-7 c = simp (c .before .enum-told7 .given .1, c .validator-byte .ensures)
 returns-8 : tie.Need-returns-8
 returns-8 c = simp (c .before .enum-told8 .given .1, c .command .ensures)
 
+returns-9 : tie.Need-returns-9
+returns-9 c = simp (c .before .before .p .given .1, c .refused .ensures)
+
 pub number-spec : {M : Type 1} → statement M
 number-spec =
     tie.close
@@ -103,6 +112,8 @@ number-spec =
     validator-byte-requires
     enum-told-8
     command-requires
+    enum-known-p
+    refused-requires
     returns
     returns-2
     returns-3
@@ -110,4 +121,5 @@ number-spec =
     returns-5
     returns-6
     returns-7
-    returns-8)
+    returns-8
+    returns-9)

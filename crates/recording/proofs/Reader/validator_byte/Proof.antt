@@ -1,6 +1,6 @@
 -- `recording::Reader::validator_byte` meets its contract. Assumes nothing.
 use Rattle.recording.specs.Reading.{byteRead}
-use Rattle.numbers.proofs.Rules.{tests}
+use Rattle.refusals.proofs.Rules.{tests}
 use borrow.Author.Needs.{needs}
 use Rattle.recording.proofs.Reader.validator_byte.Statement.{statement}
 use Rattle.recording.proofs.Reader.validator_byte.Tie as tie

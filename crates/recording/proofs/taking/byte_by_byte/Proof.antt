@@ -43,8 +43,8 @@ loop-again c =
       goes-on (turn .reader) _ (turn .i) _ (c .before .before .before .before .before .loop-test .taken) (c .before .before .before .byte .result) (c .before .before .before .byte .ensures) (turn .inv .1) _ (omega (arith, turn .inv .0)) (c .enum-told .given .1),
     )
 
-enum-known-heard : tie.Need-enum-known-heard Inv-loop μ-loop
-enum-known-heard c = search needs
+enum-known-outcome : tie.Need-enum-known-outcome Inv-loop μ-loop
+enum-known-outcome c = search needs
 
 sub-size : tie.Need-sub-size Inv-loop μ-loop
 sub-size c = omega (arith, c .before .before .before .before .before .before .before .loop .inv .0)
@@ -52,15 +52,15 @@ sub-size c = omega (arith, c .before .before .before .before .before .before .be
 returns : tie.Need-returns Inv-loop μ-loop
 returns c =
     let turn = c .before .before .before .before .before .before .before .loop in
-    is-whole (turn .reader) _ (turn .i) _ (c .before .before .before .before .before .before .loop-test .taken) (c .before .before .before .before .byte .result) (c .before .before .before .before .byte .ensures) (turn .inv .1) _ (omega (arith, turn .inv .0)) (c .before .heard .given .1)
+    is-whole (turn .reader) _ (turn .i) _ (c .before .before .before .before .before .before .loop-test .taken) (c .before .before .before .before .byte .result) (c .before .before .before .before .byte .ensures) (turn .inv .1) _ (omega (arith, turn .inv .0)) (c .before .outcome .given .1)
 
-enum-known-heard-2 : tie.Need-enum-known-heard-2 Inv-loop μ-loop
-enum-known-heard-2 c = search needs
+enum-known-outcome-2 : tie.Need-enum-known-outcome-2 Inv-loop μ-loop
+enum-known-outcome-2 c = search needs
 
 returns-2 : tie.Need-returns-2 Inv-loop μ-loop
 returns-2 c =
     let turn = c .before .before .before .before .before .before .before .loop in
-    is-bad (turn .reader) _ (turn .i) _ (c .before .before .before .before .before .before .loop-test .taken) (c .before .before .before .before .byte .result) (c .before .before .before .before .byte .ensures) (turn .inv .1) _ refl (c .before .heard2 .given .1)
+    is-bad (turn .reader) _ (turn .i) _ (c .before .before .before .before .before .before .loop-test .taken) (c .before .before .before .before .byte .result) (c .before .before .before .before .byte .ensures) (turn .inv .1) _ refl (c .before .outcome2 .given .1)
 
 returns-3 : tie.Need-returns-3 Inv-loop μ-loop
 returns-3 c = let end = c .before .loop in sym (found-end (end .reader) (end .i) _ _ (end .i) (c .loop-test .left)) ∙ end .inv .1
@@ -79,9 +79,9 @@ byte-by-byte-spec =
     enum-told
     loop-less
     loop-again
-    enum-known-heard
+    enum-known-outcome
     sub-size
     returns
-    enum-known-heard-2
+    enum-known-outcome-2
     returns-2
     returns-3)

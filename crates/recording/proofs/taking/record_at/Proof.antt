@@ -1,6 +1,7 @@
 -- `recording::taking::record_at` meets its contract. Assumes nothing.
 use mathlib.Core.Path.{subst}
-use Rattle.recording.specs.Taking.{foundAt, sure}
+use Rattle.recording.specs.Taking.{foundAt}
+use Rattle.recording.specs.Scaffolding.{sure}
 use Rattle.recording.specs.declared.taking.Glance.{Glance}
 use borrow.Author.Needs.{needs}
 use Rattle.recording.proofs.taking.record_at.Statement.{statement}

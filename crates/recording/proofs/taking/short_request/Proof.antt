@@ -2,6 +2,7 @@
 use mathlib.Core.Path.{refl, sym, _∙_}
 use Prim.Native.Nat.{_<_}
 use native.Mathlib.Nat.{mod-eq-of-lt}
+use Rattle.numbers.specs.Seven.{numberEnd}
 use Rattle.recording.specs.Reading.{requestRead}
 use borrow.Author.Needs.{needs}
 use Rattle.recording.proofs.taking.short_request.Statement.{statement}
@@ -14,7 +15,7 @@ returns : tie.Need-returns
 unfolding requestRead
 returns c =
     let here = c .before .before .args in
-    let small : here .upper < 4_294_967_296 = search needs in
+    let small : here .upper < numberEnd = search needs in
     λ at rest. rw (sym (c .before .is-request .ensures) ∙ c .if1 .taken, mod-eq-of-lt small) refl
 
 returns-2 : tie.Need-returns-2

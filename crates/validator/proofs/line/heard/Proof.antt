@@ -14,14 +14,14 @@ waits-requires c κs = search needs
 enum-told-2 : tie.Need-enum-told-2
 enum-told-2 c = search needs
 
-start-requires : tie.Need-start-requires
-start-requires c κs = search needs
+start-byte-requires : tie.Need-start-byte-requires
+start-byte-requires c κs = search needs
 
 enum-told-3 : tie.Need-enum-told-3
 enum-told-3 c = search needs
 
-gather-requires : tie.Need-gather-requires
-gather-requires c κs = search needs
+answer-byte-requires : tie.Need-answer-byte-requires
+answer-byte-requires c κs = search needs
 
 returns : tie.Need-returns
 unfolding heard
@@ -29,11 +29,11 @@ returns c = rw (c .waits .ensures) (sym (ap (λ p. heardIn p (c .before .before 
 
 returns-2 : tie.Need-returns-2
 unfolding heard
-returns-2 c = c .start .ensures ∙ sym (ap (λ p. heardIn p (c .before .before .before .args .line) (c .before .before .before .args .b)) (c .before .enum-told2 .given .1))
+returns-2 c = c .start-byte .ensures ∙ sym (ap (λ p. heardIn p (c .before .before .before .args .line) (c .before .before .before .args .b)) (c .before .enum-told2 .given .1))
 
 returns-3 : tie.Need-returns-3
 unfolding heard
-returns-3 c = c .gather .ensures ∙ sym (ap (λ p. heardIn p (c .before .before .before .args .line) (c .before .before .before .args .b)) (c .before .enum-told3 .given .1))
+returns-3 c = c .answer-byte .ensures ∙ sym (ap (λ p. heardIn p (c .before .before .before .args .line) (c .before .before .before .args .b)) (c .before .enum-told3 .given .1))
 
 pub heard-spec : {M : Type 1} → statement M
 heard-spec =
@@ -42,9 +42,9 @@ heard-spec =
     enum-told
     waits-requires
     enum-told-2
-    start-requires
+    start-byte-requires
     enum-told-3
-    gather-requires
+    answer-byte-requires
     returns
     returns-2
     returns-3)

@@ -1,7 +1,7 @@
 -- `xor_frame::frame::judge_code` meets its contract: each return is at the first test that fails. Assumes nothing.
 use mathlib.Core.Path.{sym}
 use lib.Seq.{length-take-le}
-use Rattle.numbers.proofs.Rules.{tests}
+use Rattle.refusals.proofs.Rules.{tests}
 use native.Mathlib.Omega.{arith}
 use borrow.Author.Needs.{needs}
 use Rattle.xor_frame.proofs.frame.judge_code.Statement.{statement}

@@ -8,8 +8,8 @@ use native.Mathlib.Omega.{arith}
 use lib.ListN.{length, getD, take, drop, length-append, length-set}
 use lib.Seq.{drop-cons, drop-length}
 use borrow.Author.Needs.{needs}
-use Rattle.numbers.specs.Put.{over}
-use Rattle.numbers.proofs.Writing.{over-one, over-last}
+use Rattle.refusals.specs.Put.{over}
+use Rattle.refusals.proofs.Writing.{over-one, over-last}
 use Rattle.xor_frame.specs.Frame.{checkFrom, check, closed}
 use Rattle.xor_frame.proofs.Check.{check-next, check-end}
 use Rattle.xor_frame.proofs.frame.lay.Statement.{statement}
