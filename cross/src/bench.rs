@@ -1,12 +1,12 @@
 //! A bench at work: somebody who asks, a dispenser and a validator which answer, err, are late and repeat themselves. What
 //! happens is recorded event by event. The host on this bench is the replay itself, so that the devices know what was sent.
 
-use crate::ccnet_frame;
-use crate::dispenser::{Closing, Sent, Session};
-use crate::dispenser_frame::{answer, Code, Command, Counted};
+use crate::ccnet_frame::{self, Class};
+use crate::dispenser::{Closing, Session, NAK};
+use crate::dispenser_frame::{answer, check, status, Code, Command, Counted, Fault, OPENING};
 use crate::random::Random;
 use crate::recording::{self, Record};
-use crate::replay::{Bench, Played};
+use crate::replay::{Bench, Played, Rooms};
 use crate::validator;
 
 /// What a device has still to say: when, and which byte.
@@ -36,6 +36,7 @@ enum Busy {
 pub struct Simulation {
     random: Random,
     host: Bench,
+    rooms: Rooms,
     recorded: Vec<u8>,
     now: u64,
     temper: Temper,
@@ -44,7 +45,7 @@ pub struct Simulation {
     command: Command,
     dispenser: Saying,
     validator: Saying,
-    /// What the validator last said to a POLL.
+    /// The listed answer that the validator last gave to a POLL.
     said: Vec<u8>,
 }
 
@@ -56,6 +57,7 @@ impl Simulation {
         Simulation {
             random,
             host: Bench::fresh(),
+            rooms: Rooms::new(),
             recorded: Vec::new(),
             now: 0,
             temper,
@@ -121,9 +123,12 @@ impl Simulation {
     fn command(&mut self) -> Command {
         let random = &mut self.random;
         let code = match random.below(10) {
-            0..=2 => Code::PayUpper,
-            3..=4 => Code::PayLower,
-            5..=6 => Code::PayBoth,
+            0..=1 => Code::PayUpper,
+            2 => Code::PayLower,
+            3..=4 => Code::PayBoth,
+            5 => Code::TestUpper,
+            6 => Code::TestLower,
+            7 => Code::Status,
             _ => random.pick(&Code::ALL),
         };
         let mut count = || match random.below(8) {
@@ -163,7 +168,7 @@ impl Simulation {
     /// How long to wait: to the next byte that is due, to the end of the quiet time, or as it comes.
     fn pause(&mut self) -> u32 {
         if self.random.once_in(200) {
-            return self.random.pick(&[0, 1_001, 2_000, 128_000, u32::MAX]);
+            return self.random.pick(&[0, 1_001, 16_384, 2_097_152, u32::MAX]);
         }
         let due = [self.dispenser.front(), self.validator.front()].into_iter().flatten().map(|&(due, _)| due).min();
         let exact = match due {
@@ -199,7 +204,7 @@ impl Simulation {
             }
             Record::Ask(c) => recording::write(recording::ASK, &[u32::from(c.byte())], &mut self.recorded),
         }
-        let played = self.host.play(record);
+        let played = self.host.play(record, &mut self.rooms);
         if matches!(played, Played::Declined(_)) {
             return;
         }
@@ -210,9 +215,9 @@ impl Simulation {
             _ => {}
         }
         if let Played::Dispenser(step) | Played::Both(step, _) = played {
-            match step.sent {
-                Sent::Command => self.dispenser_is_handed(),
-                Sent::Nak if step.closing.is_none() => self.dispenser_says(),
+            match self.rooms.to_dispenser(played) {
+                [OPENING, ..] => self.dispenser_is_handed(),
+                [NAK] if step.closing.is_none() => self.dispenser_says(),
                 _ => {}
             }
             if matches!(step.closing, Some(Closing::Unknown(_))) && self.random.once_in(3) {
@@ -241,20 +246,20 @@ impl Simulation {
             self.dispenser.push_back((soon, 0x06));
             return self.dispenser_answers(soon);
         }
-        match self.random.below(10) {
-            0..=3 => self.dispenser.push_back((soon, 0x15)),
-            4 => {
+        match self.random.below(12) {
+            0..=4 => self.dispenser.push_back((soon, 0x15)),
+            5 => {
                 let byte = self.random.pick(&[0x00, 0x01, 0x04, 0x05, 0x07, 0x14, 0x86, 0x95, 0xFF]);
                 self.dispenser.push_back((soon, byte));
             }
-            5 => {}
-            6 => {
+            6 => {}
+            7..=8 => {
                 // the first byte at the very end of its wait, or one too late
                 let late = self.now + u64::from(Session::FIRST_BYTE) - u64::from(self.random.below(2));
                 self.dispenser.push_back((late, 0x06));
                 self.dispenser_answers(late);
             }
-            7 => self.dispenser.push_back((soon, 0x06)),
+            9 => self.dispenser.push_back((soon, 0x06)),
             _ => {
                 self.dispenser.push_back((soon, 0x06));
                 self.dispenser_answers(soon);
@@ -269,24 +274,30 @@ impl Simulation {
             1 => self.random.within(1, 60_000),
             _ => self.random.pick(&[0, 10, 300, 800, 2_000]),
         };
-        self.dispenser_sends(from + u64::from(work));
+        self.dispenser_sends(from, work);
     }
 
     /// The dispenser heard our 15h: its answer again.
     fn dispenser_says(&mut self) {
+        if !self.dispenser.is_empty() && self.random.once_in(3) {
+            // or it did not, and goes on with what it was saying
+            return;
+        }
         self.dispenser.clear();
         let work = match self.random.below(8) {
             0 => Session::AFTER_NAK - self.random.below(3),
             1 => return,
             _ => self.random.pick(&[0, 5, 100, 900]),
         };
-        self.dispenser_sends(self.now + u64::from(work));
+        self.dispenser_sends(self.now, work);
     }
 
-    fn dispenser_sends(&mut self, mut at: u64) {
+    /// The dispenser sends its answer when it has worked so long since `from`.
+    fn dispenser_sends(&mut self, from: u64, work: u32) {
         let mut frame = self.answer();
-        if self.random.once_in(10) {
-            // noise before the frame
+        if self.random.once_in(6) {
+            // noise at some time before the frame
+            let at = from + u64::from(self.random.below(work + 1));
             for _ in 0..self.random.within(1, 3) {
                 let byte = self.random.pick(&[0x06, 0x15, 0x50, 0x03, 0x04, 0x00]);
                 self.dispenser.push_back((at, byte));
@@ -295,7 +306,7 @@ impl Simulation {
         let mut slow = 0;
         if self.errs() {
             let last = frame.len() - 1;
-            match self.random.below(7) {
+            match self.random.below(16) {
                 0 => frame[last] ^= 1 << self.random.below(8),
                 1 => {
                     let place = self.random.below(last as u32 + 1) as usize;
@@ -307,32 +318,85 @@ impl Simulation {
                     let byte = self.random.pick(&[0x01, 0x03, 0x04, 0x06, 0x15, 0x30]);
                     frame.insert(place, byte);
                 }
-                4 => slow = self.random.pick(&[198, 199, 200, 201, 500]),
-                5 => {
+                4..=5 => slow = self.random.pick(&[198, 199, 199, 200, 201, 500]),
+                6 => {
                     // one byte wrong under a check that is right
                     let place = self.random.within(1, last as u32 - 1) as usize;
                     let turned = 1 << self.random.below(8);
                     frame[place] ^= turned;
                     frame[last] ^= turned;
                 }
+                7..=14 => self.spoil(&mut frame),
                 _ => frame = self.another_answer(),
             }
         }
         let gap = self.random.pick(&[0, 0, 0, 1, 5]);
-        let stop = self.random.below(frame.len() as u32) as usize;
-        for (place, byte) in frame.into_iter().enumerate() {
-            at += if place == 0 { 0 } else { gap };
-            if place == stop && place > 0 {
-                at += slow;
+        let spoken = self.spoken(frame, from + u64::from(work), gap, slow);
+        self.dispenser.extend(spoken);
+    }
+
+    /// When each byte of a frame is said that begins at `at`: `gap` between each and the next or, if it is not 0, `slow` in
+    /// all, spread over some of the places between them.
+    fn spoken(&mut self, frame: Vec<u8>, mut at: u64, gap: u64, slow: u32) -> Saying {
+        let mut stops = vec![if slow == 0 { gap } else { 0 }; frame.len()];
+        stops[0] = 0;
+        if frame.len() > 1 {
+            let mut left = slow;
+            for more in [self.random.once_in(2), self.random.once_in(2), false] {
+                let some = if more { self.random.below(left + 1) } else { left };
+                stops[self.random.within(1, frame.len() as u32 - 1) as usize] += u64::from(some);
+                left -= some;
             }
-            self.dispenser.push_back((at, byte));
         }
+        let each = |(byte, stop)| {
+            at += stop;
+            (at, byte)
+        };
+        frame.into_iter().zip(stops).map(each).collect()
+    }
+
+    /// Makes one or two things wrong in a full answer, under a check that is right unless it is one of them.
+    fn spoil(&mut self, frame: &mut [u8]) {
+        let faults = [Fault::Opening, Fault::Code, Fault::Closing, Fault::Check, Fault::Field];
+        let two = [self.random.pick(&faults), self.random.pick(&faults)];
+        let wrong = if self.random.once_in(2) { &two[..] } else { &[Fault::Field] };
+        let last = frame.len() - 1;
+        for fault in wrong {
+            match fault {
+                Fault::Opening => frame[self.random.within(1, 2) as usize] ^= 1 << self.random.below(8),
+                Fault::Code if self.random.once_in(2) => frame[3] = self.random.byte(),
+                Fault::Code => frame[3] = self.random.pick(&Code::ALL).byte(),
+                Fault::Closing => frame[last - 1] = self.random.byte(),
+                Fault::Field => self.spoil_field(frame),
+                Fault::Check | Fault::Length => {}
+            }
+        }
+        frame[last] = check(&frame[..last]);
+        if wrong.contains(&Fault::Check) {
+            frame[last] ^= 1 << self.random.below(8);
+        }
+    }
+
+    /// Makes a field wrong, most of the time: a fixed byte, a sensor, or any.
+    fn spoil_field(&mut self, frame: &mut [u8]) {
+        let byte = self.random.pick(&[0x00, 0x01, 0x03, 0x04, 0x06, 0x15, 0x2F, 0x31, 0x32, 0x3A, 0x80, 0xFF]);
+        let any = self.random.within(4, frame.len() as u32 - 3) as usize;
+        let place = match self.command.code {
+            Code::Status => self.random.pick(&[4, 4, 6, 6, any]),
+            Code::TestUpper | Code::TestLower => self.random.pick(&[6, 7, 6, 7, any]),
+            _ => any,
+        };
+        frame[place] = byte;
     }
 
     /// What the dispenser says of the command it was handed.
     fn answer(&mut self) -> Vec<u8> {
         let Command { code, upper, lower } = self.command;
-        let error = if self.random.once_in(4) { self.random.within(0x30, 0x7F) as u8 } else { 0x30 };
+        let error = if self.random.once_in(3) { self.random.within(0x30, 0x7F) as u8 } else { 0x30 };
+        if code == Code::Status {
+            let bytes = [0x01, 0x03, 0x04, 0x06, 0x15, self.random.byte()];
+            return status(error, [0x80 | self.random.pick(&bytes), self.random.pick(&bytes)]);
+        }
         let (upper, lower) = (self.counted(upper), self.counted(lower));
         answer(code, upper, lower, error)
     }
@@ -374,6 +438,15 @@ impl Simulation {
         let body = if command == validator::Command::Poll { self.polled() } else { self.obeyed() };
         let Some(mut frame) = ccnet_frame::write(0x03, &body) else { return };
         let mut at = self.now + self.random.pick(&[0, 0, 0, 1, 5, 8]);
+        if self.random.once_in(8) {
+            // noise, and milliseconds between it and the frame
+            let noise = self.now + u64::from(self.random.below(10));
+            for _ in 0..self.random.within(1, 3) {
+                let byte = self.random.pick(&[0x00, 0x03, 0x06, 0xFF]);
+                self.validator.push_back((noise, byte));
+            }
+            at = noise + u64::from(self.random.below(11));
+        }
         let mut slow = 0;
         let errs = match self.temper {
             Temper::Stubborn => self.random.once_in(3),
@@ -383,7 +456,7 @@ impl Simulation {
             let last = frame.len() - 1;
             match self.random.below(10) {
                 0 => return,
-                1 => at = self.now + self.random.pick(&[9, 10, 11]),
+                1 => at = at.max(self.now + self.random.pick(&[9, 10, 11])),
                 2 => frame[1] = self.random.pick(&[0x00, 0x01, 0x02, 0x04, 0x0F, 0x10]),
                 // a good frame of another address
                 3 => frame = ccnet_frame::write(self.random.pick(&[0x01, 0x02, 0x04, 0x0F]), &body).unwrap_or(frame),
@@ -396,22 +469,12 @@ impl Simulation {
                 5 => frame[last - 1] ^= 1 << self.random.below(8),
                 6 => frame[last] ^= 1 << self.random.below(8),
                 7 => frame.truncate(self.random.within(1, last as u32) as usize),
-                8 => slow = self.random.pick(&[398, 399, 400, 401, 900]),
-                _ => {
-                    for _ in 0..self.random.within(1, 3) {
-                        let byte = self.random.pick(&[0x00, 0x03, 0x06, 0xFF]);
-                        frame.insert(0, byte);
-                    }
-                }
+                _ => slow = self.random.pick(&[398, 399, 399, 400, 401, 900]),
             }
         }
-        let stop = self.random.within(1, frame.len() as u32) as usize;
-        for (place, byte) in frame.into_iter().enumerate() {
-            if place == stop {
-                at += slow;
-            }
-            self.validator.push_back((at, byte));
-        }
+        let gap = self.random.pick(&[0, 0, 0, 0, 0, 0, 1, 40]);
+        let spoken = self.spoken(frame, at, gap, slow);
+        self.validator.extend(spoken);
     }
 
     /// What the validator says to a POLL; often what it said before.
@@ -419,7 +482,7 @@ impl Simulation {
         if self.random.once_in(3) {
             return self.said.clone();
         }
-        let bill = self.random.pick(&[0, 1, 2, 3, 3, 3, 12, 22, 23, 24]);
+        let bill = if self.random.once_in(10) { 24 } else { self.random.below(24) as u8 };
         let body = match self.random.below(16) {
             0..=4 => vec![0x81, bill],
             5 => vec![0x80, bill],
@@ -431,7 +494,7 @@ impl Simulation {
             11 => vec![0x47, self.random.within(0x4F, 0x60) as u8],
             12 => return vec![self.random.pick(&[0x00, 0xFF, 0x30])],
             13 => {
-                // neither listed nor expected: never remembered by the host
+                // any body: hardly ever listed
                 let length =
                     if self.random.once_in(10) { self.random.within(1, 250) } else { self.random.within(1, 4) };
                 return (0..length).map(|_| self.random.byte()).collect();
@@ -439,7 +502,10 @@ impl Simulation {
             14 => return vec![0x81, bill, 0x00],
             _ => vec![0x14],
         };
-        self.said = body.clone();
+        if ccnet_frame::classify(&body) != Class::Unknown {
+            // what the host remembers
+            self.said = body.clone();
+        }
         body
     }
 
@@ -449,7 +515,7 @@ impl Simulation {
             0..=3 => vec![0x00],
             4 => vec![0xFF],
             5 => vec![0x30],
-            6 => vec![0x81, 3],
+            6 => vec![0x81, self.random.below(25) as u8],
             _ => vec![self.random.byte(), self.random.byte()],
         }
     }

@@ -3,13 +3,14 @@
 use crate::account::Account;
 use crate::dispenser_frame::{self, Answer, Code, Command, ANSWER};
 
-const ACK: u8 = 0x06;
-const NAK: u8 = 0x15;
-const START: u8 = 0x01;
+pub const ACK: u8 = 0x06;
+pub const NAK: u8 = 0x15;
+pub const START: u8 = 0x01;
 
-/// Why a call is refused. Number 1 is no case here: this implementation lends no room.
+/// Why a call is refused.
 #[derive(Clone, Copy, Debug, PartialEq, Eq)]
 pub enum Declined {
+    Room,
     Range,
     Open,
     Quiet,
@@ -20,6 +21,7 @@ pub enum Declined {
 impl Declined {
     pub fn number(self) -> u8 {
         match self {
+            Declined::Room => 1,
             Declined::Range => 2,
             Declined::Open => 3,
             Declined::Quiet => 4,
@@ -29,20 +31,20 @@ impl Declined {
     }
 }
 
+/// "room lent for sending is under 16 bytes (dispenser session), 255 (validator session)"
+#[inline]
+pub fn large_enough(room: &[u8], least: usize) -> Result<(), Declined> {
+    if room.len() < least {
+        Err(Declined::Room)
+    } else {
+        Ok(())
+    }
+}
+
 /// "a tick is not 1 to 1,000 ms"
 #[inline]
 pub fn is_tick(ms: u32) -> bool {
     (1..=1_000).contains(&ms)
-}
-
-/// What a step put on the line.
-#[derive(Clone, Copy, Debug, PartialEq, Eq)]
-pub enum Sent {
-    Nothing,
-    /// The frame of the open command, for the first time or again.
-    Command,
-    Ack,
-    Nak,
 }
 
 /// How a command was closed.
@@ -70,16 +72,18 @@ pub enum Unknown {
     ThirdLate,
 }
 
+/// "how many bytes it put at the room's start and which closing it made, if any"
 #[derive(Clone, Copy, Debug, PartialEq, Eq)]
 pub struct Step {
-    pub sent: Sent,
+    pub put: usize,
     pub closing: Option<Closing>,
 }
 
-const NOTHING: Step = Step { sent: Sent::Nothing, closing: None };
+const NOTHING: Step = Step { put: 0, closing: None };
 
+/// What the session waits for.
 #[derive(Clone, Copy, Debug, PartialEq, Eq)]
-enum Phase {
+pub enum Phase {
     /// Nothing open: the wait is the quiet time.
     Idle,
     /// Handed over: the first byte is awaited.
@@ -117,6 +121,7 @@ impl Session {
     pub const HAND_OVERS: u32 = 3;
     pub const NAKS: u32 = 3;
     pub const COMMANDS: u32 = 1_000_000;
+    pub const ROOM: usize = 16;
 
     /// "A fresh session has zero sums, no open command and zero quiet time."
     pub fn fresh() -> Session {
@@ -143,8 +148,13 @@ impl Session {
         (self.phase == Phase::Idle).then_some((self.waited, self.limit))
     }
 
+    pub fn phase(&self) -> Phase {
+        self.phase
+    }
+
     /// "the lowest that applies is given"
-    pub fn request(&mut self, command: Command) -> Result<Step, Declined> {
+    pub fn request(&mut self, command: Command, room: &mut [u8]) -> Result<Step, Declined> {
+        large_enough(room, Session::ROOM)?;
         if !command.is_sendable() {
             return Err(Declined::Range);
         }
@@ -162,17 +172,18 @@ impl Session {
         self.hand_overs = 0;
         self.naks = 0;
         self.account.opened(command);
-        Ok(self.hand_over())
+        Ok(self.hand_over(room))
     }
 
     #[inline]
-    pub fn byte(&mut self, byte: u8) -> Step {
-        match self.phase {
+    pub fn byte(&mut self, byte: u8, room: &mut [u8]) -> Result<Step, Declined> {
+        large_enough(room, Session::ROOM)?;
+        Ok(match self.phase {
             Phase::Idle => {
                 self.waited = 0;
                 NOTHING
             }
-            Phase::First => self.first(byte),
+            Phase::First => self.first(byte, room),
             Phase::Start => {
                 if byte == START {
                     self.frame[0] = byte;
@@ -185,16 +196,18 @@ impl Session {
                 self.frame[self.gathered] = byte;
                 self.gathered += 1;
                 if self.gathered < self.command.code.answer_length() {
-                    return NOTHING;
+                    NOTHING
+                } else {
+                    self.judge(room)
                 }
-                self.judge()
             }
-        }
+        })
     }
 
     /// "A wait ends by the tick that brings its sum to the limit or past it; the excess is dropped."
     #[inline]
-    pub fn tick(&mut self, ms: u32) -> Result<Step, Declined> {
+    pub fn tick(&mut self, ms: u32, room: &mut [u8]) -> Result<Step, Declined> {
+        large_enough(room, Session::ROOM)?;
         if !is_tick(ms) {
             return Err(Declined::Tick);
         }
@@ -204,10 +217,10 @@ impl Session {
         }
         Ok(match self.phase {
             Phase::Idle => NOTHING,
-            Phase::First => self.lost(Sent::Nothing, Unknown::Silence),
-            Phase::Start if self.naks == 0 => self.lost(Sent::Nothing, Unknown::NoStart),
-            Phase::Start => self.lost(Sent::Nothing, Unknown::NoStartAgain),
-            Phase::Inside => self.bad(Unknown::ThirdLate),
+            Phase::First => self.lost(0, Unknown::Silence),
+            Phase::Start if self.naks == 0 => self.lost(0, Unknown::NoStart),
+            Phase::Start => self.lost(0, Unknown::NoStartAgain),
+            Phase::Inside => self.bad(Unknown::ThirdLate, room),
         })
     }
 
@@ -217,64 +230,71 @@ impl Session {
         self.limit = limit;
     }
 
-    fn hand_over(&mut self) -> Step {
+    fn hand_over(&mut self, room: &mut [u8]) -> Step {
         self.hand_overs += 1;
         self.wait(Phase::First, Session::FIRST_BYTE);
-        Step { sent: Sent::Command, closing: None }
+        Step { put: self.command.write_to(room), closing: None }
     }
 
     /// "First byte since a hand-over"
-    fn first(&mut self, byte: u8) -> Step {
+    fn first(&mut self, byte: u8, room: &mut [u8]) -> Step {
         match byte {
             ACK => {
                 self.wait(Phase::Start, Session::ANSWER);
                 NOTHING
             }
-            NAK if self.hand_overs < Session::HAND_OVERS => self.hand_over(),
+            NAK if self.hand_overs < Session::HAND_OVERS => self.hand_over(room),
             NAK => {
                 self.account.refused();
-                self.close(Sent::Nothing, Closing::Refused)
+                self.close(0, Closing::Refused)
             }
-            _ => self.lost(Sent::Nothing, Unknown::OtherByte),
+            _ => self.lost(0, Unknown::OtherByte),
         }
     }
 
     /// "Good answer with the code asked: send 06h and close as answered. Any other full frame (bad) ..: send 15h".
-    fn judge(&mut self) -> Step {
+    fn judge(&mut self, room: &mut [u8]) -> Step {
         let frame = &self.frame[..self.gathered];
         if frame[3] != self.command.code.byte() {
-            return self.bad(Unknown::ThirdBad);
+            return self.bad(Unknown::ThirdBad, room);
         }
         match dispenser_frame::read_answer(frame) {
             Ok(answer) => {
                 self.account.answered(answer);
-                self.close(Sent::Ack, Closing::Answered(answer))
+                self.close(reply(ACK, room), Closing::Answered(answer))
             }
-            Err(_) => self.bad(Unknown::ThirdBad),
+            Err(_) => self.bad(Unknown::ThirdBad, room),
         }
     }
 
     /// "the third 15h of a command is sent and closes it as unknown"
-    fn bad(&mut self, third: Unknown) -> Step {
+    fn bad(&mut self, third: Unknown, room: &mut [u8]) -> Step {
+        let put = reply(NAK, room);
         self.naks += 1;
         if self.naks == Session::NAKS {
-            return self.lost(Sent::Nak, third);
+            return self.lost(put, third);
         }
         self.wait(Phase::Start, Session::AFTER_NAK);
-        Step { sent: Sent::Nak, closing: None }
+        Step { put, closing: None }
     }
 
-    fn lost(&mut self, sent: Sent, how: Unknown) -> Step {
+    fn lost(&mut self, put: usize, how: Unknown) -> Step {
         self.account.lost();
-        let step = self.close(sent, Closing::Unknown(how));
+        let step = self.close(put, Closing::Unknown(how));
         self.limit = Session::QUIET_AFTER_UNKNOWN;
         step
     }
 
-    fn close(&mut self, sent: Sent, closing: Closing) -> Step {
+    fn close(&mut self, put: usize, closing: Closing) -> Step {
         self.wait(Phase::Idle, Session::QUIET);
-        Step { sent, closing: Some(closing) }
+        Step { put, closing: Some(closing) }
     }
+}
+
+/// Puts a single byte at the room's start.
+fn reply(byte: u8, room: &mut [u8]) -> usize {
+    room[0] = byte;
+    1
 }
 
 impl Default for Session {
@@ -290,25 +310,79 @@ mod tests {
 
     const TEN: Command = Command { code: Code::PayUpper, upper: 10, lower: 0 };
 
-    fn pass(session: &mut Session, mut ms: u32) -> Step {
-        let mut last = NOTHING;
-        while ms > 0 {
-            let tick = ms.min(1_000);
-            last = session.tick(tick).unwrap();
-            ms -= tick;
+    /// What a call did: the bytes that it sent, and its closing.
+    type Did = (Vec<u8>, Option<Closing>);
+
+    /// A host with a room.
+    #[derive(Clone)]
+    struct Host {
+        session: Session,
+        room: [u8; Session::ROOM],
+    }
+
+    impl Host {
+        fn fresh() -> Host {
+            Host { session: Session::fresh(), room: [0xEE; Session::ROOM] }
         }
-        last
+
+        /// What was sent, taken out of the room; the rest of the room must be as it was.
+        fn did(&mut self, step: Step) -> Did {
+            let sent = self.room[..step.put].to_vec();
+            assert!(self.room[step.put..].iter().all(|&byte| byte == 0xEE));
+            self.room = [0xEE; Session::ROOM];
+            (sent, step.closing)
+        }
+
+        fn request(&mut self, command: Command) -> Result<Did, Declined> {
+            let step = self.session.request(command, &mut self.room)?;
+            Ok(self.did(step))
+        }
+
+        fn byte(&mut self, byte: u8) -> Did {
+            let step = self.session.byte(byte, &mut self.room).unwrap();
+            self.did(step)
+        }
+
+        fn tick(&mut self, ms: u32) -> Result<Did, Declined> {
+            let step = self.session.tick(ms, &mut self.room)?;
+            Ok(self.did(step))
+        }
+
+        fn pass(&mut self, mut ms: u32) -> Did {
+            let mut last = nothing();
+            while ms > 0 {
+                let tick = ms.min(1_000);
+                last = self.tick(tick).unwrap();
+                ms -= tick;
+            }
+            last
+        }
+
+        fn hear(&mut self, bytes: &[u8]) -> Did {
+            bytes.iter().fold(nothing(), |_, &byte| self.byte(byte))
+        }
     }
 
-    fn opened(command: Command) -> Session {
-        let mut session = Session::fresh();
-        pass(&mut session, 5_200);
-        assert_eq!(session.request(command), Ok(Step { sent: Sent::Command, closing: None }));
-        session
+    fn nothing() -> Did {
+        (vec![], None)
     }
 
-    fn hear(session: &mut Session, bytes: &[u8]) -> Step {
-        bytes.iter().fold(NOTHING, |_, &byte| session.byte(byte))
+    /// A 15h of ours that closes nothing.
+    fn asked_again() -> Did {
+        (vec![NAK], None)
+    }
+
+    fn handed_over(command: Command) -> Did {
+        let mut room = [0; Session::ROOM];
+        let length = command.write_to(&mut room);
+        (room[..length].to_vec(), None)
+    }
+
+    fn opened(command: Command) -> Host {
+        let mut host = Host::fresh();
+        host.pass(5_200);
+        assert_eq!(host.request(command), Ok(handed_over(command)));
+        host
     }
 
     fn ten(exit: u8) -> Vec<u8> {
@@ -316,67 +390,67 @@ mod tests {
         answer(Code::PayUpper, counted, counted, 0x30)
     }
 
-    fn unknown(sent: Sent, how: Unknown) -> Step {
-        Step { sent, closing: Some(Closing::Unknown(how)) }
+    fn unknown(sent: &[u8], how: Unknown) -> Did {
+        (sent.to_vec(), Some(Closing::Unknown(how)))
     }
 
     #[test]
     fn quiet_5199_refused_5200_taken() {
-        let mut session = Session::fresh();
-        pass(&mut session, 5_199);
-        assert_eq!(session.request(TEN), Err(Declined::Quiet));
-        pass(&mut session, 1);
-        assert!(session.request(TEN).is_ok());
+        let mut host = Host::fresh();
+        host.pass(5_199);
+        assert_eq!(host.request(TEN), Err(Declined::Quiet));
+        host.pass(1);
+        assert!(host.request(TEN).is_ok());
     }
 
     #[test]
     fn a_stray_byte_starts_the_quiet_time_again() {
-        let mut session = Session::fresh();
-        pass(&mut session, 5_200);
-        session.byte(0x55);
-        pass(&mut session, 5_199);
-        assert_eq!(session.request(TEN), Err(Declined::Quiet));
-        pass(&mut session, 1);
-        assert!(session.request(TEN).is_ok());
+        let mut host = Host::fresh();
+        host.pass(5_200);
+        host.byte(0x55);
+        host.pass(5_199);
+        assert_eq!(host.request(TEN), Err(Declined::Quiet));
+        host.pass(1);
+        assert!(host.request(TEN).is_ok());
     }
 
     #[test]
     fn the_lowest_number_is_given() {
         let none = Command { code: Code::PayUpper, upper: 0, lower: 0 };
-        assert_eq!(Session::fresh().request(none), Err(Declined::Range));
-        let mut session = opened(TEN);
-        assert_eq!(session.request(none), Err(Declined::Range));
-        assert_eq!(session.request(TEN), Err(Declined::Open));
+        assert_eq!(Host::fresh().request(none), Err(Declined::Range));
+        let mut host = opened(TEN);
+        assert_eq!(host.request(none), Err(Declined::Range));
+        assert_eq!(host.request(TEN), Err(Declined::Open));
     }
 
     #[test]
     fn a_tick_is_1_to_1000() {
-        let mut session = Session::fresh();
+        let mut host = Host::fresh();
         for (ms, taken) in [(0, false), (1, true), (1_000, true), (1_001, false), (u32::MAX, false)] {
-            assert_eq!(session.tick(ms).is_ok(), taken, "{ms}");
+            assert_eq!(host.tick(ms).is_ok(), taken, "{ms}");
         }
-        assert_eq!(session.quiet(), Some((1_001, 5_200)));
+        assert_eq!(host.session.quiet(), Some((1_001, 5_200)));
     }
 
     #[test]
     fn answered_in_full() {
-        let mut session = opened(TEN);
-        assert_eq!(session.byte(ACK), NOTHING);
-        let step = hear(&mut session, &ten(10));
+        let mut host = opened(TEN);
+        assert_eq!(host.byte(ACK), nothing());
+        let step = host.hear(&ten(10));
         let paid = Closing::Answered(Answer::PaidUpper(Payment { exit: 10, rejects: 3 }));
-        assert_eq!(step, Step { sent: Sent::Ack, closing: Some(paid) });
-        let upper = session.account().upper;
+        assert_eq!(step, (vec![ACK], Some(paid)));
+        let upper = host.session.account().upper;
         assert_eq!((upper.asked, upper.paid, upper.open, upper.rejected), (10, 10, 0, 3));
-        assert_eq!(session.quiet(), Some((0, 5_200)));
+        assert_eq!(host.session.quiet(), Some((0, 5_200)));
     }
 
     #[test]
     fn paid_by_exit_and_not_by_chk() {
         for (exit, short, over) in [(9, 1, 0), (12, 0, 2), (0, 10, 0)] {
-            let mut session = opened(TEN);
-            session.byte(ACK);
-            hear(&mut session, &ten(exit));
-            let upper = session.account().upper;
+            let mut host = opened(TEN);
+            host.byte(ACK);
+            host.hear(&ten(exit));
+            let upper = host.session.account().upper;
             assert_eq!((upper.paid, upper.short, upper.over), (u32::from(exit), short, over));
             assert!(upper.balances());
         }
@@ -384,123 +458,139 @@ mod tests {
 
     #[test]
     fn refused_after_the_third_hand_over() {
-        let mut session = opened(TEN);
-        assert_eq!(session.byte(NAK).sent, Sent::Command);
-        assert_eq!(session.byte(NAK).sent, Sent::Command);
-        assert_eq!(session.byte(NAK), Step { sent: Sent::Nothing, closing: Some(Closing::Refused) });
-        assert_eq!(session.account().upper.refused, 10);
-        assert_eq!(session.quiet(), Some((0, 5_200)));
+        let mut host = opened(TEN);
+        assert_eq!(host.byte(NAK), handed_over(TEN));
+        assert_eq!(host.byte(NAK), handed_over(TEN));
+        assert_eq!(host.byte(NAK), (vec![], Some(Closing::Refused)));
+        assert_eq!(host.session.account().upper.refused, 10);
+        assert_eq!(host.session.quiet(), Some((0, 5_200)));
     }
 
     #[test]
     fn each_hand_over_has_its_own_wait() {
-        let mut session = opened(TEN);
-        pass(&mut session, 5_049);
-        session.byte(NAK);
-        assert_eq!(pass(&mut session, 5_049), NOTHING);
-        assert_eq!(pass(&mut session, 1), unknown(Sent::Nothing, Unknown::Silence));
+        let mut host = opened(TEN);
+        host.pass(5_049);
+        host.byte(NAK);
+        assert_eq!(host.pass(5_049), nothing());
+        assert_eq!(host.pass(1), unknown(&[], Unknown::Silence));
     }
 
     #[test]
     fn any_other_first_byte_is_unknown_at_once() {
         for byte in [0x01, 0x00, 0x04, 0xFF] {
-            let mut session = opened(TEN);
-            assert_eq!(session.byte(byte), unknown(Sent::Nothing, Unknown::OtherByte));
-            assert_eq!(session.account().upper.unknown, 10);
+            let mut host = opened(TEN);
+            assert_eq!(host.byte(byte), unknown(&[], Unknown::OtherByte));
+            assert_eq!(host.session.account().upper.unknown, 10);
         }
     }
 
     #[test]
     fn after_an_unknown_closing_95200() {
-        let mut session = opened(TEN);
-        session.byte(0x00);
-        pass(&mut session, 95_199);
-        assert_eq!(session.request(TEN), Err(Declined::Quiet));
-        session.byte(0x00);
-        pass(&mut session, 95_199);
-        assert_eq!(session.request(TEN), Err(Declined::Quiet));
-        pass(&mut session, 1);
-        assert!(session.request(TEN).is_ok());
+        let mut host = opened(TEN);
+        host.byte(0x00);
+        host.pass(95_199);
+        assert_eq!(host.request(TEN), Err(Declined::Quiet));
+        host.byte(0x00);
+        host.pass(95_199);
+        assert_eq!(host.request(TEN), Err(Declined::Quiet));
+        host.pass(1);
+        assert!(host.request(TEN).is_ok());
         for _ in 0..3 {
-            session.byte(NAK);
+            host.byte(NAK);
         }
-        assert_eq!(session.quiet(), Some((0, 5_200)));
+        assert_eq!(host.session.quiet(), Some((0, 5_200)));
     }
 
     #[test]
     fn an_answer_starts_within_90000_and_skipped_bytes_do_not_restart_it() {
-        let mut session = opened(TEN);
-        session.byte(ACK);
-        pass(&mut session, 50_000);
-        hear(&mut session, &[ACK, NAK, 0x50, 0x04]);
-        assert_eq!(pass(&mut session, 39_999), NOTHING);
-        let mut late = session.clone();
-        assert_eq!(pass(&mut late, 1), unknown(Sent::Nothing, Unknown::NoStart));
-        assert!(matches!(hear(&mut session, &ten(10)).closing, Some(Closing::Answered(_))));
+        let mut host = opened(TEN);
+        host.byte(ACK);
+        host.pass(50_000);
+        host.hear(&[ACK, NAK, 0x50, 0x04]);
+        assert_eq!(host.pass(39_999), nothing());
+        let mut late = host.clone();
+        assert_eq!(late.pass(1), unknown(&[], Unknown::NoStart));
+        assert!(matches!(host.hear(&ten(10)).1, Some(Closing::Answered(_))));
     }
 
     #[test]
     fn a_frame_has_200_ms() {
-        let mut session = opened(TEN);
-        session.byte(ACK);
+        let mut host = opened(TEN);
+        host.byte(ACK);
         let frame = ten(10);
-        hear(&mut session, &frame[..13]);
-        pass(&mut session, 199);
-        let mut late = session.clone();
-        assert_eq!(pass(&mut late, 1), Step { sent: Sent::Nak, closing: None });
-        assert_eq!(session.byte(frame[13]).sent, Sent::Ack);
+        // from 01h, and not from the last byte
+        host.hear(&frame[..4]);
+        host.pass(150);
+        host.hear(&frame[4..13]);
+        host.pass(49);
+        let mut late = host.clone();
+        assert_eq!(late.pass(1), asked_again());
+        assert_eq!(host.byte(frame[13]).0, [ACK]);
         // the excess is dropped: the 5,050 start at 0
         let mut long = opened(TEN);
         long.byte(ACK);
         long.byte(START);
-        assert_eq!(long.tick(1_000), Ok(Step { sent: Sent::Nak, closing: None }));
-        assert_eq!(pass(&mut long, 5_049), NOTHING);
-        assert_eq!(pass(&mut long, 1), unknown(Sent::Nothing, Unknown::NoStartAgain));
+        assert_eq!(long.tick(1_000), Ok(asked_again()));
+        assert_eq!(long.pass(5_049), nothing());
+        assert_eq!(long.pass(1), unknown(&[], Unknown::NoStartAgain));
     }
 
     #[test]
     fn bad_and_late_frames_share_three_15h() {
-        let mut session = opened(TEN);
-        session.byte(ACK);
+        let mut host = opened(TEN);
+        host.byte(ACK);
         let mut wrong = ten(10);
         wrong[13] ^= 0x01;
-        assert_eq!(hear(&mut session, &wrong), Step { sent: Sent::Nak, closing: None });
-        session.byte(START);
-        assert_eq!(pass(&mut session, 200), Step { sent: Sent::Nak, closing: None });
-        let mut third = session.clone();
-        assert_eq!(hear(&mut session, &wrong), unknown(Sent::Nak, Unknown::ThirdBad));
+        assert_eq!(host.hear(&wrong), asked_again());
+        host.byte(START);
+        assert_eq!(host.pass(200), asked_again());
+        let mut third = host.clone();
+        assert_eq!(host.hear(&wrong), unknown(&[NAK], Unknown::ThirdBad));
         third.byte(START);
-        assert_eq!(pass(&mut third, 200), unknown(Sent::Nak, Unknown::ThirdLate));
-        assert_eq!(third.account().upper.unknown, 10);
+        assert_eq!(third.pass(200), unknown(&[NAK], Unknown::ThirdLate));
+        assert_eq!(third.session.account().upper.unknown, 10);
     }
 
     #[test]
     fn an_answer_to_another_code_is_bad() {
-        let mut session = opened(TEN);
-        session.byte(ACK);
+        let mut host = opened(TEN);
+        host.byte(ACK);
         let counted = Counted { chk: 10, exit: 10, state: 0x30, rejects: 9 };
         let lower = answer(Code::PayLower, counted, counted, 0x30);
-        assert_eq!(hear(&mut session, &lower), Step { sent: Sent::Nak, closing: None });
-        assert_eq!(session.account().lower.rejected, 0);
+        assert_eq!(host.hear(&lower), asked_again());
+        assert_eq!(host.session.account().lower.rejected, 0);
     }
 
     #[test]
     fn an_answer_is_full_at_its_length_and_not_at_03h() {
-        let mut session = opened(Command { code: Code::Purge, upper: 0, lower: 0 });
-        session.byte(ACK);
+        let mut host = opened(Command { code: Code::Purge, upper: 0, lower: 0 });
+        host.byte(ACK);
         // 01 50 02 44 error 03 check: with error 3Bh the check is 2Fh; a 01h or 03h inside is a byte like any other
-        assert_eq!(hear(&mut session, &[0x01, 0x01, 0x03, 0x44, 0x03, 0x03]), NOTHING);
-        assert_eq!(session.byte(0x46).sent, Sent::Nak);
+        assert_eq!(host.hear(&[0x01, 0x01, 0x03, 0x44, 0x03, 0x03]), nothing());
+        assert_eq!(host.byte(0x46).0, [NAK]);
     }
 
     #[test]
     fn a_test_adds_its_rejects_and_leaves_the_notes_alone() {
-        let mut session = opened(Command { code: Code::TestLower, upper: 0, lower: 0 });
-        session.byte(ACK);
+        let mut host = opened(Command { code: Code::TestLower, upper: 0, lower: 0 });
+        host.byte(ACK);
         let counted = Counted { chk: 5, exit: 0, state: 0x31, rejects: 5 };
-        assert_eq!(hear(&mut session, &answer(Code::TestLower, counted, counted, 0x39)).sent, Sent::Ack);
-        assert_eq!(session.account().lower.rejected, 5);
-        assert_eq!(session.account().lower.asked, 0);
-        assert_eq!(session.account().upper.rejected, 0);
+        assert_eq!(host.hear(&answer(Code::TestLower, counted, counted, 0x39)).0, [ACK]);
+        assert_eq!(host.session.account().lower.rejected, 5);
+        assert_eq!(host.session.account().lower.asked, 0);
+        assert_eq!(host.session.account().upper.rejected, 0);
+    }
+
+    #[test]
+    fn a_room_under_16_bytes_is_refused_with_1_and_reaches_nothing() {
+        let mut host = opened(TEN);
+        host.byte(ACK);
+        let room = &mut [0xEE; 15];
+        let before = format!("{:?}", host.session);
+        assert_eq!(host.session.request(TEN, room), Err(Declined::Room));
+        assert_eq!(host.session.byte(START, room), Err(Declined::Room));
+        assert_eq!(host.session.tick(0, room), Err(Declined::Room));
+        assert_eq!((format!("{:?}", host.session), *room), (before, [0xEE; 15]));
+        assert_eq!(Declined::Room.number(), 1);
     }
 }

@@ -54,6 +54,21 @@ impl Code {
             Code::PayBoth => 21,
         }
     }
+
+    /// Where the error byte of an answer stands.
+    pub fn error_at(self) -> usize {
+        match self {
+            Code::Purge => 4,
+            Code::Status => 5,
+            Code::PayUpper | Code::PayLower | Code::TestUpper | Code::TestLower => 8,
+            Code::PayBoth => 12,
+        }
+    }
+}
+
+/// The 27 published error codes. "An unlisted code is no reason to refuse the answer."
+pub fn is_listed(error: u8) -> bool {
+    matches!(error, 0x30..=0x38 | 0x3A..=0x3D | 0x3F..=0x4A | 0x4C | 0x4E)
 }
 
 /// The longest answer.
@@ -80,20 +95,24 @@ impl Command {
         }
     }
 
-    /// The frame of a command that can be sent.
-    pub fn frame(self) -> Option<Vec<u8>> {
-        if !self.is_sendable() {
-            return None;
-        }
-        let mut frame = vec![0x04, 0x50, 0x02, self.code.byte()];
+    /// Writes the frame of a command that can be sent at the start of the room, which is long enough, and says how long it is.
+    pub fn write_to(self, room: &mut [u8]) -> usize {
+        room[..4].copy_from_slice(&[OPENING, 0x50, 0x02, self.code.byte()]);
+        let mut length = 4;
         for count in [self.upper, self.lower] {
             if count != 0 {
-                frame.extend(digits(count as u8));
+                room[length..length + 2].copy_from_slice(&digits(count as u8));
+                length += 2;
             }
         }
-        Some(closed(frame))
+        room[length] = 0x03;
+        room[length + 1] = check(&room[..=length]);
+        length + 2
     }
 }
+
+/// What a command begins with.
+pub const OPENING: u8 = 0x04;
 
 /// What a good answer says, as far as anybody asks here.
 #[derive(Clone, Copy, Debug, PartialEq, Eq)]
@@ -139,7 +158,7 @@ impl Fault {
 
 /// "The check is the exclusive or of all bytes before it."
 #[inline]
-fn check(bytes: &[u8]) -> u8 {
+pub fn check(bytes: &[u8]) -> u8 {
     bytes.iter().fold(0, |sum, byte| sum ^ byte)
 }
 
@@ -205,6 +224,19 @@ pub fn read_answer(frame: &[u8]) -> Result<Answer, Fault> {
     read_fields(code, &frame[4..length - 2])
 }
 
+/// Everything that is wrong with a full answer to the code, in the order of the tests. Any other code is wrong.
+pub fn faults(code: Code, frame: &[u8]) -> Vec<Fault> {
+    let last = frame.len() - 1;
+    let right = [
+        (Fault::Opening, frame[..3] == [0x01, 0x50, 0x02]),
+        (Fault::Code, frame[3] == code.byte()),
+        (Fault::Closing, frame[last - 1] == 0x03),
+        (Fault::Check, frame[last] == check(&frame[..last])),
+        (Fault::Field, read_fields(code, &frame[4..last - 1]).is_ok()),
+    ];
+    right.into_iter().filter(|(_, right)| !right).map(|(fault, _)| fault).collect()
+}
+
 #[inline]
 fn read_fields(code: Code, fields: &[u8]) -> Result<Answer, Fault> {
     match code {
@@ -265,12 +297,13 @@ pub struct Counted {
     pub rejects: u8,
 }
 
-/// The answer that a dispenser gives, whether or not its fields are in range: counts are under 100.
+/// The answer that a dispenser gives, whether or not its fields are in range: counts are under 100. The sensors of a status
+/// show the states.
 pub fn answer(code: Code, upper: Counted, lower: Counted, error: u8) -> Vec<u8> {
     let mut frame = vec![0x01, 0x50, 0x02, code.byte()];
     match code {
         Code::Purge => frame.push(error),
-        Code::Status => frame.extend([0x30, error, 0x80 | upper.state, lower.state]),
+        Code::Status => return status(error, [0x80 | upper.state, lower.state]),
         Code::PayBoth => {
             for count in [upper.chk, upper.exit, lower.chk, lower.exit] {
                 frame.extend(digits(count));
@@ -291,35 +324,46 @@ pub fn answer(code: Code, upper: Counted, lower: Counted, error: u8) -> Vec<u8> 
     closed(frame)
 }
 
+/// The answer to a status, with any sensor bytes.
+pub fn status(error: u8, [sensor_0, sensor_1]: [u8; 2]) -> Vec<u8> {
+    closed(vec![0x01, 0x50, 0x02, Code::Status.byte(), 0x30, error, sensor_0, sensor_1])
+}
+
 #[cfg(test)]
 mod tests {
     use super::*;
 
-    fn frame(code: Code, upper: u32, lower: u32) -> Option<Vec<u8>> {
-        Command { code, upper, lower }.frame()
-    }
-
     #[test]
-    fn the_bench_sheets_commands() {
-        assert_eq!(frame(Code::PayUpper, 10, 0).unwrap(), [0x04, 0x50, 0x02, 0x45, 0x31, 0x30, 0x03, 0x11]);
-        assert_eq!(frame(Code::PayLower, 0, 15).unwrap().last(), Some(&0x04));
-        assert_eq!(frame(Code::PayBoth, 15, 15).unwrap().last(), Some(&0x03));
-        assert_eq!(frame(Code::Purge, 0, 0).unwrap().last(), Some(&0x11));
-        assert_eq!(frame(Code::Status, 0, 0).unwrap().last(), Some(&0x13));
+    fn every_command_has_its_bytes() {
+        let written = |code, upper, lower| {
+            let mut room = [0xEE; 16];
+            let length = Command { code, upper, lower }.write_to(&mut room);
+            assert!(room[length..].iter().all(|&byte| byte == 0xEE));
+            room[..length].to_vec()
+        };
+        assert_eq!(written(Code::Purge, 0, 0), [0x04, 0x50, 0x02, 0x44, 0x03, 0x11]);
+        assert_eq!(written(Code::PayUpper, 10, 0), [0x04, 0x50, 0x02, 0x45, 0x31, 0x30, 0x03, 0x11]);
+        assert_eq!(written(Code::Status, 0, 0), [0x04, 0x50, 0x02, 0x46, 0x03, 0x13]);
+        assert_eq!(written(Code::PayLower, 0, 15), [0x04, 0x50, 0x02, 0x55, 0x31, 0x35, 0x03, 0x04]);
+        let both = [0x04, 0x50, 0x02, 0x56, 0x31, 0x35, 0x31, 0x35, 0x03, 0x03];
+        assert_eq!(written(Code::PayBoth, 15, 15), both);
+        assert_eq!(written(Code::TestUpper, 0, 0), [0x04, 0x50, 0x02, 0x76, 0x03, 0x23]);
+        assert_eq!(written(Code::TestLower, 0, 0), [0x04, 0x50, 0x02, 0x77, 0x03, 0x22]);
     }
 
     #[test]
     fn counts_0_and_61_refused_1_and_60_taken() {
+        let sendable = |code, upper, lower| Command { code, upper, lower }.is_sendable();
         for (count, taken) in [(0, false), (1, true), (60, true), (61, false), (266, false), (u32::MAX, false)] {
-            assert_eq!(frame(Code::PayUpper, count, 0).is_some(), taken, "{count}");
-            assert_eq!(frame(Code::PayLower, 0, count).is_some(), taken, "{count}");
-            assert_eq!(frame(Code::PayBoth, count, 1).is_some(), taken, "{count}");
-            assert_eq!(frame(Code::PayBoth, 1, count).is_some(), taken, "{count}");
+            assert_eq!(sendable(Code::PayUpper, count, 0), taken, "{count}");
+            assert_eq!(sendable(Code::PayLower, 0, count), taken, "{count}");
+            assert_eq!(sendable(Code::PayBoth, count, 1), taken, "{count}");
+            assert_eq!(sendable(Code::PayBoth, 1, count), taken, "{count}");
         }
-        assert_eq!(frame(Code::PayUpper, 10, 5), None);
-        assert_eq!(frame(Code::PayLower, 5, 10), None);
-        assert_eq!(frame(Code::Status, 1, 0), None);
-        assert_eq!(frame(Code::TestUpper, 0, 1), None);
+        assert!(!sendable(Code::PayUpper, 10, 5));
+        assert!(!sendable(Code::PayLower, 5, 10));
+        assert!(!sendable(Code::Status, 1, 0));
+        assert!(!sendable(Code::TestUpper, 0, 1));
     }
 
     #[test]
@@ -345,6 +389,24 @@ mod tests {
             for code in Code::ALL {
                 assert_eq!(read_answer(&answer(code, PLAIN, PLAIN, error)).is_ok(), read, "{code:?} {error:02X}");
             }
+        }
+    }
+
+    #[test]
+    fn sensor_0_has_its_top_bit_and_sensor_1_is_any() {
+        for byte in 0..=255 {
+            assert_eq!(read_answer(&status(0x30, [byte, 0x00])).is_ok(), byte >= 0x80, "{byte:02X}");
+            assert_eq!(read_answer(&status(0x30, [0x80, byte])), Ok(Answer::Status), "{byte:02X}");
+        }
+    }
+
+    #[test]
+    fn an_unlisted_error_stands_where_the_error_stands() {
+        assert_eq!((0..=255).filter(|&error| is_listed(error)).count(), 27);
+        for code in Code::ALL {
+            let bytes = answer(code, PLAIN, PLAIN, 0x39);
+            assert_eq!(bytes[code.error_at()], 0x39);
+            assert!(read_answer(&bytes).is_ok(), "{code:?}");
         }
     }
 
@@ -381,5 +443,20 @@ mod tests {
         letter[4] = b':';
         letter[13] = check(&letter[..13]);
         assert_eq!(read_answer(&letter), Err(Fault::Field));
+    }
+
+    #[test]
+    fn of_two_faults_the_first_is_given() {
+        let mut frame = answer(Code::TestUpper, PLAIN, PLAIN, 0x30);
+        assert_eq!(faults(Code::TestUpper, &frame), []);
+        // a fixed 30h, the check of before, 03h, the code, the opening: each hides those before it here
+        let wrong =
+            [(7, 0x31, Fault::Check), (12, 0x04, Fault::Closing), (3, 0x78, Fault::Code), (2, 0x03, Fault::Opening)];
+        for (known, (place, byte, first)) in wrong.into_iter().enumerate() {
+            frame[place] = byte;
+            assert_eq!(read_answer(&frame), Err(first));
+            let all = faults(Code::TestUpper, &frame);
+            assert_eq!((all[0], all.len()), (first, known + 2));
+        }
     }
 }

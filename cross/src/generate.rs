@@ -60,12 +60,24 @@ pub fn recording(seed: u64, index: u64) -> (Family, Vec<u8>) {
         Family::Plausible => plausible(random),
         Family::Damaged => damaged(random),
         Family::Records => records(random),
-        Family::Bytes => bytes(random, 200),
+        Family::Bytes => any(random, 200),
         Family::Short => short(random),
         Family::Long => long(random),
     };
-    (family, bytes)
+    (family, without_kind_5(bytes))
 }
+
+/// Kind 5 is unknown today, but document 02 will make it a record: the recording's first bad record is of another kind.
+fn without_kind_5(mut bytes: Vec<u8>) -> Vec<u8> {
+    let bad = recording::records(&bytes).ok().and_then(|mut records| records.find_map(Result::err));
+    if let Some(bad) = bad.filter(|bad| bytes[bad.at] == 5) {
+        bytes[bad.at] = UNKNOWN;
+    }
+    bytes
+}
+
+/// A kind that will stay unknown.
+const UNKNOWN: u8 = 0xFF;
 
 fn plausible(random: &mut Random) -> Vec<u8> {
     let length = match random.below(10) {
@@ -79,6 +91,10 @@ fn plausible(random: &mut Random) -> Vec<u8> {
 fn damaged(random: &mut Random) -> Vec<u8> {
     let length = random.within(20, 800);
     let mut bytes = Simulation::new(random.word()).run(length as usize);
+    if random.once_in(2) {
+        wrong(random, &mut bytes);
+        return bytes;
+    }
     for _ in 0..random.pick(&[1, 1, 1, 2, 4]) {
         damage(random, &mut bytes);
     }
@@ -107,17 +123,20 @@ fn damage(random: &mut Random, bytes: &mut Vec<u8>) {
     }
 }
 
-/// Records whose numbers lie around the limits, most of them good.
+/// Records whose numbers lie around the limits, most of them good; often the last one is wrong.
 fn records(random: &mut Random) -> Vec<u8> {
     let mut bytes = Vec::new();
-    for _ in 0..random.within(1, 80) {
+    for _ in 0..random.within(1, 40) {
         record(random, &mut bytes);
+    }
+    if !random.once_in(4) {
+        wrong(random, &mut bytes);
     }
     bytes
 }
 
 fn record(random: &mut Random, bytes: &mut Vec<u8>) {
-    match random.below(60) {
+    match random.below(59) {
         0..=9 => {
             let code = if random.once_in(40) { random.byte() } else { random.pick(&Code::ALL).byte() };
             let (upper, lower) = (value(random), value(random));
@@ -136,22 +155,69 @@ fn record(random: &mut Random, bytes: &mut Vec<u8>) {
             let byte = if random.once_in(60) { value(random) } else { u32::from(line_byte(random)) };
             recording::write(recording::VALIDATOR_BYTE, &[byte], bytes);
         }
-        45..=58 => {
+        _ => {
             let code = if random.once_in(60) { 0x34 } else { random.pick(&validator::Command::ALL).byte() };
             recording::write(recording::ASK, &[u32::from(code)], bytes);
         }
-        _ => {
-            // a kind with a number that may be too long, too large or not in shortest form
-            bytes.push(random.below(6) as u8);
-            match random.below(6) {
-                0 => bytes.extend([random.byte() | 0x80, 0x00]),
-                1 => bytes.extend([0x80, 0x80, 0x80, 0x80, random.within(0x0E, 0x11) as u8]),
-                2 => bytes.extend([0xFF, 0xFF, 0xFF, 0xFF, 0x8F]),
-                3 => bytes.extend([0x80, 0x80, 0x80, 0x80, 0x00]),
-                4 => {}
-                _ => number::write(random.word() as u32, bytes),
+    }
+}
+
+/// A record that makes the recording bad, as the last one, and perhaps bytes behind it.
+fn wrong(random: &mut Random, bytes: &mut Vec<u8>) {
+    let request = u32::from(random.pick(&Code::ALL).byte());
+    match random.below(12) {
+        0..=5 => {
+            // in each place that a number can have
+            let (kind, before) = random.pick(&[(0, 0), (0, 1), (0, 2), (1, 0), (2, 0), (3, 0), (4, 0)]);
+            recording::write(kind, &[request, value(random)][..before], bytes);
+            wrong_number(random, bytes);
+        }
+        6..=7 => {
+            let kind = [random.within(6, 15) as u8, random.within(16, 254) as u8, UNKNOWN];
+            bytes.push(random.pick(&kind));
+            bytes.extend(any(random, 4));
+        }
+        8..=9 => {
+            // good but for what is above its eight lowest bits
+            let above = 256 * random.pick(&[1, 2, 127, 0x00FF_FFFF]);
+            let ask = u32::from(random.pick(&validator::Command::ALL).byte());
+            let (counts, byte) = ([value(random), value(random)], u32::from(line_byte(random)));
+            match random.below(4) {
+                0 => recording::write(recording::REQUEST, &[request + above, counts[0], counts[1]], bytes),
+                1 => recording::write(recording::DISPENSER_BYTE, &[byte + above], bytes),
+                2 => recording::write(recording::VALIDATOR_BYTE, &[byte + above], bytes),
+                _ => recording::write(recording::ASK, &[ask + above], bytes),
             }
         }
+        _ => {
+            // a code outside its list: judged after the record's numbers, one of which may be wrong or not there
+            let code = random.pick(&[0x00, 0x30, 0x34, 0x43, 0x47, 0x57, 0x78, request + 256]);
+            if random.once_in(4) {
+                return recording::write(recording::ASK, &[random.pick(&[0x34, 0x31, 0x00, 0x45])], bytes);
+            }
+            recording::write(recording::REQUEST, &[code, value(random)], bytes);
+            match random.below(4) {
+                0..=1 => wrong_number(random, bytes),
+                2 => {}
+                _ => number::write(value(random), bytes),
+            }
+        }
+    }
+}
+
+/// A number in a wrong form: more than five groups, not the shortest, over 32 bits, or cut short by the recording's end.
+fn wrong_number(random: &mut Random, bytes: &mut Vec<u8>) {
+    let form = random.below(11);
+    let (groups, last) = match form {
+        0 => (5, None),
+        1..=4 => (form, Some(0x00)),
+        5 => (4, Some(random.within(0x10, 0x7F) as u8)),
+        _ => (form - 6, None),
+    };
+    bytes.extend((0..groups).map(|_| random.byte() | 0x80));
+    bytes.extend(last);
+    if form <= 5 && random.once_in(2) {
+        bytes.extend(any(random, 3));
     }
 }
 
@@ -171,28 +237,28 @@ fn value(random: &mut Random) -> u32 {
     }
 }
 
-fn bytes(random: &mut Random, most: u32) -> Vec<u8> {
+/// Any bytes, so many at most.
+fn any(random: &mut Random, most: u32) -> Vec<u8> {
     (0..random.below(most + 1)).map(|_| random.byte()).collect()
 }
 
 fn short(random: &mut Random) -> Vec<u8> {
-    match random.below(3) {
-        0 => bytes(random, 6),
-        1 => {
+    match random.below(4) {
+        0 => any(random, 6),
+        1..=2 => {
             let mut bytes = Vec::new();
             for _ in 0..random.below(4) {
                 record(random, &mut bytes);
             }
-            let keep = random.below(bytes.len() as u32 + 1) as usize;
-            if random.once_in(2) {
-                bytes.truncate(keep);
+            if !random.once_in(3) {
+                wrong(random, &mut bytes);
+            } else {
+                bytes.truncate(random.below(bytes.len() as u32 + 1) as usize);
             }
             bytes
         }
         // bytes that a kind or a number could be
-        _ => {
-            (0..random.below(9)).map(|_| random.pick(&[0, 1, 2, 3, 4, 5, 0x33, 0x45, 0x80, 0xFF, 0x0F, 0x10])).collect()
-        }
+        _ => (0..random.below(9)).map(|_| random.pick(&[0, 1, 2, 3, 4, 0x33, 0x45, 0x80, 0xFF, 0x0F, 0x10])).collect(),
     }
 }
 
@@ -232,6 +298,17 @@ mod tests {
             assert_eq!(recording(1, index), recording(1, index));
         }
         assert_ne!(recording(1, 0), recording(2, 0));
+    }
+
+    #[test]
+    fn no_recording_has_a_record_of_kind_5() {
+        assert_eq!(without_kind_5(vec![2, 5, 5, 5]), [2, 5, UNKNOWN, 5]);
+        for index in 0..1_000 {
+            let (_, bytes) = recording(2, index);
+            if let Err(bad) = crate::replay::replay(&bytes) {
+                assert_ne!(bytes[bad.at], 5, "recording {index}");
+            }
+        }
     }
 
     #[test]

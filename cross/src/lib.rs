@@ -30,3 +30,4 @@ pub mod loads;
 pub mod other;
 pub mod reach;
 pub mod shrink;
+pub mod watch;

@@ -47,6 +47,11 @@ fn read_on(bytes: &[u8], at: usize, first: u32) -> Result<(u32, usize), Fault> {
     Err(Fault::Bad)
 }
 
+/// How many groups the number has in its shortest form.
+pub fn groups(value: u32) -> usize {
+    (1..GROUPS).find(|k| value >> (7 * k) == 0).unwrap_or(GROUPS)
+}
+
 /// Appends the number in its shortest form.
 pub fn write(mut value: u32, bytes: &mut Vec<u8>) {
     while value >= u32::from(MORE) {
@@ -77,6 +82,7 @@ mod tests {
         for value in [0, 1, 127, 128, 16_383, 16_384, 2_097_151, 2_097_152, 268_435_455, 268_435_456, u32::MAX] {
             let bytes = written(value);
             assert_eq!(read(&bytes, 0), Ok((value, bytes.len())));
+            assert_eq!(groups(value), bytes.len());
         }
     }
 

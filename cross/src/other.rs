@@ -90,7 +90,7 @@ mod tests {
 
     #[test]
     fn reports_are_told_apart() {
-        let (good, bad) = (crate::report::report(&[2, 1]), crate::report::report(&[5]));
+        let (good, bad) = (crate::report::report(&[2, 1]), crate::report::report(&[0xFF]));
         assert_eq!(split(&format!("{good}{bad}{bad}{good}")), [good.clone(), bad.clone(), bad, good]);
         assert_eq!(split("upper\n"), ["upper\n"]);
     }

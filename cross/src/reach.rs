@@ -1,23 +1,19 @@
 //! How many recordings reached each closing of both sessions and whatever else the comparison must not miss.
 
-use crate::account::Sums;
-use crate::dispenser::{Closing, Declined, Unknown};
-use crate::dispenser_frame::Answer;
-use crate::recording;
-use crate::replay::{Bench, Played};
-use crate::validator::{self, Bill, Damage};
+use crate::watch::reached;
 
 /// Declares the places and the table of their names.
 macro_rules! places {
-    ($($place:ident = $least:literal, $name:literal;)*) => {
+    ($($place:ident = $least:literal, $name:literal $(: $($part:literal)+)?;)*) => {
         /// What a recording can reach.
         #[derive(Clone, Copy)]
-        enum Place {
+        pub enum Place {
             $($place,)*
         }
 
-        /// The name of each place, and how many recordings of a whole run must reach it.
-        const PLACES: &[(&str, u32)] = &[$(($name, $least),)*];
+        /// The name of each place, how many recordings of a whole run must reach it, and what each part of it is, where it has
+        /// parts: so many must reach each.
+        const PLACES: &[(&str, u32, &[&str])] = &[$(($name, $least, &[$($($part,)+)?]),)*];
         const COUNT: usize = PLACES.len();
     };
 }
@@ -34,6 +30,19 @@ places! {
     LeftOpen = 100, "dispenser: left open";
     HandedOverAgain = 100, "dispenser: answered after a hand-over again";
     AskedAgain = 100, "dispenser: answered after a 15h of ours";
+    FirstByteAgain = 100, "dispenser: the 5,050 ms after a second or third hand-over":
+        "06h at 5,049" "06h too late" "06h in time by the last hand-over alone" "silence after the second" "silence after the third";
+    SkippedBefore01 = 100, "dispenser: ms between skipped bytes and 01h":
+        "in time" "unknown, but not by the skipped byte, and more came";
+    SlowAnswer = 100, "dispenser: ms between the bytes of an answer":
+        "whole at 199" "late, but not by its last byte, and more came";
+    OneFault = 100, "dispenser: bad frame, one fault": "12" "another code" "14" "15" "16";
+    TwoFaults = 100, "dispenser: bad frame, two faults at once":
+        "12 and another code" "12 and 14" "12 and 15" "12 and 16" "another code and 14" "another code and 15" "14 and 15" "14 and 16" "15 and 16";
+    FixedByte = 100, "dispenser: bad frame, only a fixed 30h is wrong": "46h" "76h, first" "76h, second" "77h, first" "77h, second";
+    SensorTopBit = 100, "dispenser: bad frame, only sensor 0 has its top bit clear";
+    Sensor = 100, "dispenser: answered, sensor 1 of a status": "01h" "03h" "04h" "06h" "15h";
+    Unlisted = 100, "dispenser: answered, an unlisted error": "44h" "45h" "46h" "55h" "56h" "76h" "77h";
     Over = 100, "account: over";
     Short = 100, "account: short";
     BothCassettes = 100, "account: both cassettes in one command";
@@ -47,8 +56,14 @@ places! {
     DamagedCheck = 100, "validator: damaged, check";
     DamagedLate = 100, "validator: damaged, late";
     Silent = 100, "validator: silent";
-    BillCredited = 100, "validator: bill credited";
+    SkippedBefore02 = 100, "validator: ms between skipped bytes and 02h":
+        "in time" "silent, but not by the skipped byte, and more came";
+    SlowBody = 100, "validator: ms between the bytes of an answer":
+        "whole at 399" "late, but not by its last byte, and more came";
+    BillCredited = 100, "validator: bill credited, type":
+        "0" "1" "2" "3" "4" "5" "6" "7" "8" "9" "10" "11" "12" "13" "14" "15" "16" "17" "18" "19" "20" "21" "22" "23";
     BillRepeated = 100, "validator: bill repeated";
+    Type24 = 100, "validator: unknown body, bill type 24": "80h" "81h" "82h";
     UnknownBody = 100, "validator: unknown body";
     Declined2 = 100, "declined: 2";
     Declined3Dispenser = 100, "declined: 3, dispenser";
@@ -57,193 +72,97 @@ places! {
     Declined4Validator = 100, "declined: 4, validator";
     Declined6 = 100, "declined: 6";
     Good = 100, "recording: good";
-    Bad21 = 100, "recording: bad 21";
+    GoodNumber = 100, "recording: good, a number of so many groups": "one" "two" "three" "four" "five";
+    Bad21 = 100, "recording: bad 21, the wrong number": "code" "upper" "lower" "of kind 1" "of kind 2" "of kind 3" "of kind 4";
     Bad22 = 100, "recording: bad 22";
-    Bad23 = 100, "recording: bad 23";
+    WrongNumber = 100, "recording: bad 21 or 22, form of the wrong number":
+        "top bit set on the fifth" "two, not shortest" "three, not shortest" "four, not shortest" "five, not shortest" "over 32 bits"
+        "cut before the first" "cut after one" "cut after two" "cut after three" "cut after four";
+    WrongBehindCode = 100, "recording: bad 21 or 22 behind a code outside the list": "21" "22";
+    UnknownKind = 100, "recording: bad 23, unknown kind": "6 to 15" "16 to 254" "255";
+    UnknownCode = 100, "recording: bad 23, code outside the list": "kind 0" "kind 4";
+    Above255 = 100, "recording: bad 23, above 255 and else good": "kind 0" "kind 1" "kind 3" "kind 4";
     Bad24 = 1, "recording: bad 24";
 }
 
-/// Counts over a run.
-#[derive(Clone, Debug)]
-pub struct Reach {
-    counts: [u32; COUNT],
-}
-
-/// What one recording reached.
-struct Reached([bool; COUNT]);
+/// What one recording reached: of each place, which parts; a place without parts is its part 0.
+pub struct Reached([u32; COUNT]);
 
 impl Reached {
-    fn nothing() -> Reached {
-        Reached([false; COUNT])
+    pub fn nothing() -> Reached {
+        Reached([0; COUNT])
     }
 
-    fn mark(&mut self, place: Place) {
-        self.0[place as usize] = true;
+    pub fn mark(&mut self, place: Place) {
+        self.part(place, 0);
     }
+
+    pub fn part(&mut self, place: Place, part: usize) {
+        self.0[place as usize] |= 1 << part;
+    }
+}
+
+/// Counts over a run, for each part of each place.
+#[derive(Clone, Debug)]
+pub struct Reach {
+    counts: Vec<Vec<u32>>,
 }
 
 impl Default for Reach {
     fn default() -> Reach {
-        Reach { counts: [0; COUNT] }
+        Reach { counts: PLACES.iter().map(|(_, _, parts)| vec![0; parts.len().max(1)]).collect() }
     }
 }
 
 impl Reach {
     /// Counts what a recording reached. What a bad recording did before it went bad is not counted, since no report shows it.
     pub fn count(&mut self, bytes: &[u8]) {
-        for (count, reached) in self.counts.iter_mut().zip(reached(bytes).0) {
-            *count += u32::from(reached);
+        for (counts, reached) in self.counts.iter_mut().zip(reached(bytes).0) {
+            for (part, count) in counts.iter_mut().enumerate() {
+                *count += reached >> part & 1;
+            }
         }
     }
 
-    /// The table, a line for each place.
+    /// The table, a line for each place: of one with parts, how many reached the part that the fewest reached.
     pub fn table(&self) -> String {
-        let line = |((name, _), count): (&(&str, u32), &u32)| format!("{count:>8}  {name}\n");
-        PLACES.iter().zip(&self.counts).map(line).collect()
+        let mut table = String::new();
+        for ((name, _, parts), counts) in PLACES.iter().zip(&self.counts) {
+            let (part, count) = counts.iter().enumerate().min_by_key(|&(_, count)| count).unwrap_or((0, &0));
+            let rarest = parts.get(part).map(|part| format!(", rarest of {}: {part}", parts.len())).unwrap_or_default();
+            table += &format!("{count:>8}  {name}{rarest}\n");
+        }
+        table
     }
 
     /// What too few recordings reached, for a run of so many: the table's numbers hold for 20,000 or more.
-    pub fn missing(&self, run: u64) -> Vec<&'static str> {
+    pub fn missing(&self, run: u64) -> Vec<String> {
         let least = |least: u32| (u64::from(least) * run.min(20_000) / 20_000).max(u64::from(run >= 2_000));
-        PLACES
-            .iter()
-            .zip(&self.counts)
-            .filter(|(place, &count)| u64::from(count) < least(place.1))
-            .map(|(place, _)| place.0)
-            .collect()
-    }
-}
-
-fn reached(bytes: &[u8]) -> Reached {
-    let mut all = Reached::nothing();
-    let mut bench = Bench::fresh();
-    let mut again = Again::default();
-    let records = match recording::records(bytes) {
-        Ok(records) => records,
-        Err(bad) => return faulty(bad.fault),
-    };
-    for record in records {
-        match record {
-            Ok(record) => played(&mut all, &mut again, record, bench.play(record)),
-            Err(bad) => return faulty(bad.fault),
-        }
-    }
-    all.mark(Place::Good);
-    let account = bench.dispenser.account();
-    let either = |sum: fn(&Sums) -> u32| sum(&account.upper) > 0 || sum(&account.lower) > 0;
-    if either(|sums| sums.over) {
-        all.mark(Place::Over);
-    }
-    if either(|sums| sums.short) {
-        all.mark(Place::Short);
-    }
-    if either(|sums| sums.open) {
-        all.mark(Place::LeftOpen);
-    }
-    all
-}
-
-fn faulty(fault: recording::Fault) -> Reached {
-    let mut all = Reached::nothing();
-    all.mark(match fault {
-        recording::Fault::Number => Place::Bad21,
-        recording::Fault::Cut => Place::Bad22,
-        recording::Fault::Unknown => Place::Bad23,
-        recording::Fault::TooLong => Place::Bad24,
-    });
-    all
-}
-
-/// What the open dispenser command went through.
-#[derive(Default)]
-struct Again {
-    hand_overs: u32,
-    naks: u32,
-}
-
-fn played(all: &mut Reached, again: &mut Again, record: recording::Record, played: Played) {
-    match played {
-        Played::Dispenser(step) => dispenser(all, again, record, step),
-        Played::Validator(step) => validator(all, step),
-        Played::Both(one, other) => {
-            dispenser(all, again, record, one);
-            validator(all, other);
-        }
-        Played::Declined(why) => all.mark(match (why, record) {
-            (Declined::Range, _) => Place::Declined2,
-            (Declined::Open, recording::Record::Ask(_)) => Place::Declined3Validator,
-            (Declined::Open, _) => Place::Declined3Dispenser,
-            (Declined::Quiet, recording::Record::Ask(_)) => Place::Declined4Validator,
-            (Declined::Quiet, _) => Place::Declined4Dispenser,
-            (Declined::Tick, _) => Place::Declined6,
-            (Declined::Spent, _) => unreachable!("no recording has room for 1,000,000 commands"),
-        }),
-    }
-}
-
-fn dispenser(all: &mut Reached, again: &mut Again, record: recording::Record, step: crate::dispenser::Step) {
-    use crate::dispenser::Sent;
-    if let recording::Record::Request(_) = record {
-        *again = Again::default();
-    }
-    match step.sent {
-        Sent::Command => again.hand_overs += 1,
-        Sent::Nak => again.naks += 1,
-        Sent::Nothing | Sent::Ack => {}
-    }
-    match step.closing {
-        None => {}
-        Some(Closing::Answered(answer)) => {
-            all.mark(Place::Answered);
-            if again.hand_overs > 1 {
-                all.mark(Place::HandedOverAgain);
-            }
-            if again.naks > 0 {
-                all.mark(Place::AskedAgain);
-            }
-            match answer {
-                Answer::PaidBoth(..) => all.mark(Place::BothCassettes),
-                Answer::TestedUpper { rejects } | Answer::TestedLower { rejects } if rejects > 0 => {
-                    all.mark(Place::TestRejects)
-                }
-                _ => {}
+        let mut missing = Vec::new();
+        for ((name, wanted, parts), counts) in PLACES.iter().zip(&self.counts) {
+            for (part, _) in counts.iter().enumerate().filter(|(_, &count)| u64::from(count) < least(*wanted)) {
+                missing.push(parts.get(part).map_or(name.to_string(), |part| format!("{name}: {part}")));
             }
         }
-        Some(Closing::Refused) => all.mark(Place::Refused),
-        Some(Closing::Unknown(how)) => all.mark(match how {
-            Unknown::OtherByte => Place::OtherByte,
-            Unknown::Silence => Place::NoFirstByte,
-            Unknown::NoStart => Place::NoAnswer,
-            Unknown::NoStartAgain => Place::NoAnswerAgain,
-            Unknown::ThirdBad => Place::ThirdBad,
-            Unknown::ThirdLate => Place::ThirdLate,
-        }),
+        missing
     }
 }
 
-fn validator(all: &mut Reached, step: validator::Step) {
-    use crate::ccnet_frame::Class;
-    use validator::Closing;
-    match step.closing {
-        None => {}
-        Some(Closing::Acknowledged) => all.mark(Place::Acknowledged),
-        Some(Closing::RefusedByNak) => all.mark(Place::RefusedByNak),
-        Some(Closing::Illegal) => all.mark(Place::Illegal),
-        Some(Closing::Answered(class)) => {
-            all.mark(Place::AnsweredByBody);
-            if class == Class::Unknown {
-                all.mark(Place::UnknownBody);
-            }
-        }
-        Some(Closing::Damaged(Damage::Address)) => all.mark(Place::DamagedAddress),
-        Some(Closing::Damaged(Damage::Length)) => all.mark(Place::DamagedLength),
-        Some(Closing::Damaged(Damage::Check)) => all.mark(Place::DamagedCheck),
-        Some(Closing::Damaged(Damage::Late)) => all.mark(Place::DamagedLate),
-        Some(Closing::Silent) => all.mark(Place::Silent),
-    }
-    match step.bill {
-        None => {}
-        Some(Bill::Credited) => all.mark(Place::BillCredited),
-        Some(Bill::Repeated) => all.mark(Place::BillRepeated),
+#[cfg(test)]
+mod tests {
+    use super::*;
+
+    #[test]
+    fn a_row_shows_its_rarest_part() {
+        let mut reach = Reach::default();
+        reach.count(&[0xFF]);
+        reach.count(&[0xFF]);
+        reach.count(&[0x06]);
+        assert!(reach.table().contains("       0  recording: bad 23, unknown kind, rarest of 3: 16 to 254\n"));
+        reach.count(&[0x20]);
+        assert!(reach.table().contains("       1  recording: bad 23, unknown kind, rarest of 3: 6 to 15\n"));
+        assert!(reach.missing(20_000).contains(&"recording: bad 23, unknown kind: 255".to_string()));
+        assert!(reach.missing(200).contains(&"recording: good".to_string()));
+        assert!(!reach.missing(200).contains(&"recording: bad 23, unknown kind: 255".to_string()));
     }
 }

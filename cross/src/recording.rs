@@ -157,7 +157,7 @@ mod tests {
 
     #[test]
     fn an_unknown_kind_is_23_at_once() {
-        assert_eq!(first(&[5]), bad(Fault::Unknown, 0));
+        assert_eq!(first(&[0x06]), bad(Fault::Unknown, 0));
         assert_eq!(first(&[0xFF, 0x80, 0x00]), bad(Fault::Unknown, 0));
     }
 
@@ -191,8 +191,8 @@ mod tests {
 
     #[test]
     fn the_length_is_judged_first() {
-        assert_eq!(records(&[5; LONGEST + 1]).err(), Some(Bad { fault: Fault::TooLong, at: 0 }));
-        assert_eq!(records(&[5; LONGEST]).unwrap().next(), Some(bad(Fault::Unknown, 0)));
+        assert_eq!(records(&[0xFF; LONGEST + 1]).err(), Some(Bad { fault: Fault::TooLong, at: 0 }));
+        assert_eq!(records(&[0xFF; LONGEST]).unwrap().next(), Some(bad(Fault::Unknown, 0)));
         assert_eq!(records(&[]).unwrap().next(), None);
     }
 }

@@ -66,10 +66,10 @@ mod tests {
         assert_eq!(report(&[2, 1, 2, 0x80, 0x00]), "bad 21 at 2\n");
         assert_eq!(report(&[2, 1, 2, 0x80]), "bad 22 at 2\n");
         assert_eq!(report(&[2, 1, 2]), "bad 22 at 2\n");
-        assert_eq!(report(&[2, 1, 5]), "bad 23 at 2\n");
+        assert_eq!(report(&[2, 1, 0xFF]), "bad 23 at 2\n");
         assert_eq!(report(&[2, 1, 4, 0x34]), "bad 23 at 2\n");
-        assert_eq!(report(&[5; 65_537]), "bad 24 at 0\n");
-        assert_eq!(report(&[5; 65_536]), "bad 23 at 0\n");
+        assert_eq!(report(&[0xFF; 65_537]), "bad 24 at 0\n");
+        assert_eq!(report(&[0xFF; 65_536]), "bad 23 at 0\n");
         assert_eq!(report(&[2; 65_536]).lines().last(), Some("records 32768"));
     }
 

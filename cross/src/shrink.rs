@@ -90,6 +90,6 @@ mod tests {
         let good = |bytes: &[u8]| crate::replay::replay(bytes).is_ok_and(|bench| bench.records >= 2);
         assert!(good(&bytes));
         assert_eq!(shrunk(bytes, good).len(), 4);
-        assert_eq!(shrunk(vec![1, 6, 5, 5, 5, 7], |bytes| bytes.contains(&7)), [7]);
+        assert_eq!(shrunk(vec![1, 6, 0xFF, 0xFF, 0xFF, 7], |bytes| bytes.contains(&7)), [7]);
     }
 }

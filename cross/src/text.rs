@@ -92,8 +92,8 @@ mod tests {
 
     #[test]
     fn each_line_is_its_records() {
-        let text = "tick 1000 x2 # two seconds\n\npay upper 10\ndispenser 06 95\nraw 05\npoll\nvalidator 02\n";
-        let bytes = [2, 0xE8, 7, 2, 0xE8, 7, 0, 0x45, 10, 0, 1, 6, 1, 0x95, 1, 5, 4, 0x33, 3, 2];
+        let text = "tick 1000 x2 # two seconds\n\npay upper 10\ndispenser 06 95\nraw FF\npoll\nvalidator 02\n";
+        let bytes = [2, 0xE8, 7, 2, 0xE8, 7, 0, 0x45, 10, 0, 1, 6, 1, 0x95, 1, 0xFF, 4, 0x33, 3, 2];
         assert_eq!(recording(text).unwrap(), bytes);
     }
 

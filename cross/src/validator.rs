@@ -1,7 +1,7 @@
 //! "The validator session": one command, at most one answer, and the bills that were stacked.
 
 use crate::ccnet_frame::{self, Class, Place, LONGEST, SHORTEST, SYNC, TYPES};
-use crate::dispenser::{is_tick, Declined};
+use crate::dispenser::{is_tick, large_enough, Declined};
 
 /// The commands that a recording can ask for: those without data. ENABLE BILL TYPES (34h) has data and is in no recording.
 #[derive(Clone, Copy, Debug, PartialEq, Eq)]
@@ -67,16 +67,23 @@ pub enum Bill {
     Repeated,
 }
 
+/// "how many bytes it put at the room's start and which closing it made, if any"
 #[derive(Clone, Copy, Debug, PartialEq, Eq)]
 pub struct Step {
+    pub put: usize,
     pub closing: Option<Closing>,
     pub bill: Option<Bill>,
 }
 
-const NOTHING: Step = Step { closing: None, bill: None };
+const NOTHING: Step = Step { put: 0, closing: None, bill: None };
 
+/// "A body of one byte 00h is ACK, FFh is NAK": what we reply.
+const ACK: u8 = 0x00;
+const NAK: u8 = 0xFF;
+
+/// What the session waits for.
 #[derive(Clone, Copy, Debug, PartialEq, Eq)]
-enum Phase {
+pub enum Phase {
     /// Nothing open: the wait is the quiet time.
     Idle,
     /// The answer's 02h is awaited.
@@ -106,6 +113,7 @@ impl Session {
     pub const FRAME: u32 = 400;
     pub const ADDRESS: u8 = 0x03;
     pub const COMMANDS: u32 = 1_000_000;
+    pub const ROOM: usize = LONGEST;
 
     pub fn fresh() -> Session {
         Session {
@@ -126,11 +134,16 @@ impl Session {
         &self.bills
     }
 
+    pub fn phase(&self) -> Phase {
+        self.phase
+    }
+
     pub fn is_open(&self) -> bool {
         self.phase != Phase::Idle
     }
 
-    pub fn request(&mut self, command: Command) -> Result<Step, Declined> {
+    pub fn request(&mut self, command: Command, room: &mut [u8]) -> Result<Step, Declined> {
+        large_enough(room, Session::ROOM)?;
         if self.is_open() {
             return Err(Declined::Open);
         }
@@ -143,12 +156,13 @@ impl Session {
         self.accepted += 1;
         self.command = command;
         self.wait(Phase::Start, Session::START);
-        Ok(NOTHING)
+        Ok(Step { put: frame(command.byte(), room), ..NOTHING })
     }
 
     #[inline]
-    pub fn byte(&mut self, byte: u8) -> Step {
-        match self.phase {
+    pub fn byte(&mut self, byte: u8, room: &mut [u8]) -> Result<Step, Declined> {
+        large_enough(room, Session::ROOM)?;
+        Ok(match self.phase {
             Phase::Idle => {
                 self.waited = 0;
                 NOTHING
@@ -164,35 +178,35 @@ impl Session {
             Phase::Inside => {
                 self.store[self.gathered] = byte;
                 self.gathered += 1;
-                self.inside(byte)
+                self.inside(byte, room)
             }
-        }
+        })
     }
 
     /// "A wrong address (not 03h) or length byte, at that byte, a wrong check or a late frame .. closes as damaged".
     #[inline]
-    fn inside(&mut self, byte: u8) -> Step {
+    fn inside(&mut self, byte: u8, room: &mut [u8]) -> Step {
         match self.gathered {
-            2 if byte != Session::ADDRESS => self.damaged(Damage::Address),
-            3 if usize::from(byte) < SHORTEST => self.damaged(Damage::Length),
+            2 if byte != Session::ADDRESS => self.damaged(Damage::Address, room),
+            3 if usize::from(byte) < SHORTEST => self.damaged(Damage::Length, room),
             1..=3 => NOTHING,
             gathered if gathered < usize::from(self.store[2]) => NOTHING,
-            _ => self.judge(),
+            _ => self.judge(room),
         }
     }
 
-    fn judge(&mut self) -> Step {
+    fn judge(&mut self, room: &mut [u8]) -> Step {
         let Ok(body) = ccnet_frame::body(&self.store[..self.gathered]) else {
-            return self.damaged(Damage::Check);
+            return self.damaged(Damage::Check, room);
         };
         let class = ccnet_frame::classify(body);
         match class {
-            Class::Ack => self.close(Closing::Acknowledged),
-            Class::Nak => self.close(Closing::RefusedByNak),
-            Class::Illegal => self.close(Closing::Illegal),
+            Class::Ack => self.close(0, Closing::Acknowledged),
+            Class::Nak => self.close(0, Closing::RefusedByNak),
+            Class::Illegal => self.close(0, Closing::Illegal),
             Class::State | Class::Bill(..) | Class::Unknown => {
                 let bill = if self.command == Command::Poll { self.polled(class) } else { None };
-                Step { bill, ..self.close(Closing::Answered(class)) }
+                Step { bill, ..self.close(frame(ACK, room), Closing::Answered(class)) }
             }
         }
     }
@@ -215,7 +229,8 @@ impl Session {
     }
 
     #[inline]
-    pub fn tick(&mut self, ms: u32) -> Result<Step, Declined> {
+    pub fn tick(&mut self, ms: u32, room: &mut [u8]) -> Result<Step, Declined> {
+        large_enough(room, Session::ROOM)?;
         if !is_tick(ms) {
             return Err(Declined::Tick);
         }
@@ -225,20 +240,21 @@ impl Session {
         }
         Ok(match self.phase {
             Phase::Idle => NOTHING,
-            Phase::Start => self.close(Closing::Silent),
-            Phase::Inside => self.damaged(Damage::Late),
+            Phase::Start => self.close(0, Closing::Silent),
+            Phase::Inside => self.damaged(Damage::Late, room),
         })
     }
 
-    fn damaged(&mut self, damage: Damage) -> Step {
-        self.close(Closing::Damaged(damage))
+    /// "sends a NAK frame and closes as damaged"
+    fn damaged(&mut self, damage: Damage, room: &mut [u8]) -> Step {
+        self.close(frame(NAK, room), Closing::Damaged(damage))
     }
 
-    fn close(&mut self, closing: Closing) -> Step {
+    fn close(&mut self, put: usize, closing: Closing) -> Step {
         self.store[..self.gathered].fill(0);
         self.gathered = 0;
         self.wait(Phase::Idle, Session::QUIET);
-        Step { closing: Some(closing), bill: None }
+        Step { put, closing: Some(closing), bill: None }
     }
 
     fn wait(&mut self, phase: Phase, limit: u32) {
@@ -246,6 +262,11 @@ impl Session {
         self.waited = 0;
         self.limit = limit;
     }
+}
+
+/// Puts the frame of a one-byte body at the room's start.
+fn frame(body: u8, room: &mut [u8]) -> usize {
+    ccnet_frame::write_to(Session::ADDRESS, &[body], room)
 }
 
 impl Default for Session {
@@ -259,151 +280,216 @@ mod tests {
     use super::*;
     use crate::ccnet_frame::write;
 
-    fn hear(session: &mut Session, bytes: &[u8]) -> Step {
-        bytes.iter().fold(NOTHING, |_, &byte| session.byte(byte))
+    /// A host with a room.
+    #[derive(Clone)]
+    struct Host {
+        session: Session,
+        room: [u8; Session::ROOM],
     }
 
-    fn ask(session: &mut Session, command: Command) {
-        session.tick(20).unwrap();
-        session.request(command).unwrap();
+    impl Host {
+        fn fresh() -> Host {
+            Host { session: Session::fresh(), room: [0xEE; Session::ROOM] }
+        }
+
+        fn request(&mut self, command: Command) -> Result<Step, Declined> {
+            self.session.request(command, &mut self.room)
+        }
+
+        fn byte(&mut self, byte: u8) -> Step {
+            self.session.byte(byte, &mut self.room).unwrap()
+        }
+
+        fn tick(&mut self, ms: u32) -> Result<Step, Declined> {
+            self.session.tick(ms, &mut self.room)
+        }
+
+        fn hear(&mut self, bytes: &[u8]) -> Step {
+            bytes.iter().fold(NOTHING, |_, &byte| self.byte(byte))
+        }
+
+        fn ask(&mut self, command: Command) {
+            self.tick(20).unwrap();
+            self.request(command).unwrap();
+        }
+
+        /// Asks, and hears a frame with the body.
+        fn exchange(&mut self, command: Command, body: &[u8]) -> Step {
+            self.ask(command);
+            self.hear(&write(3, body).unwrap())
+        }
+
+        /// What a step sent.
+        fn sent(&self, step: Step) -> &[u8] {
+            &self.room[..step.put]
+        }
     }
 
-    /// Asks, and hears a frame with the body.
-    fn exchange(session: &mut Session, command: Command, body: &[u8]) -> Step {
-        ask(session, command);
-        hear(session, &write(3, body).unwrap())
-    }
-
+    /// A closing as it is where nothing is credited; an answer and a damaged frame get a frame of six bytes.
     fn closed(closing: Closing) -> Step {
-        Step { closing: Some(closing), bill: None }
+        let replied = matches!(closing, Closing::Answered(_) | Closing::Damaged(_));
+        Step { put: if replied { 6 } else { 0 }, closing: Some(closing), bill: None }
     }
 
-    fn all_zero(session: &Session) -> bool {
-        session.store.iter().all(|&byte| byte == 0)
+    fn all_zero(host: &Host) -> bool {
+        host.session.store.iter().all(|&byte| byte == 0)
     }
 
     #[test]
     fn quiet_19_refused_20_taken() {
-        let mut session = Session::fresh();
-        session.tick(19).unwrap();
-        assert_eq!(session.request(Command::Poll), Err(Declined::Quiet));
-        session.tick(1).unwrap();
-        assert!(session.request(Command::Poll).is_ok());
-        assert_eq!(session.request(Command::Poll), Err(Declined::Open));
+        let mut host = Host::fresh();
+        host.tick(19).unwrap();
+        assert_eq!(host.request(Command::Poll), Err(Declined::Quiet));
+        host.tick(1).unwrap();
+        assert!(host.request(Command::Poll).is_ok());
+        assert_eq!(host.request(Command::Poll), Err(Declined::Open));
     }
 
     #[test]
     fn quiet_counts_from_the_last_byte_and_from_the_closing() {
-        let mut session = Session::fresh();
-        session.tick(20).unwrap();
-        session.byte(0x02);
-        session.tick(19).unwrap();
-        assert_eq!(session.request(Command::Poll), Err(Declined::Quiet));
-        session.tick(1).unwrap();
-        session.request(Command::Poll).unwrap();
-        assert_eq!(session.tick(1_000), Ok(closed(Closing::Silent)));
-        session.tick(19).unwrap();
-        assert_eq!(session.request(Command::Poll), Err(Declined::Quiet));
+        let mut host = Host::fresh();
+        host.tick(20).unwrap();
+        host.byte(0x02);
+        host.tick(19).unwrap();
+        assert_eq!(host.request(Command::Poll), Err(Declined::Quiet));
+        host.tick(1).unwrap();
+        host.request(Command::Poll).unwrap();
+        assert_eq!(host.tick(1_000), Ok(closed(Closing::Silent)));
+        host.tick(19).unwrap();
+        assert_eq!(host.request(Command::Poll), Err(Declined::Quiet));
     }
 
     #[test]
     fn an_answer_starts_within_10_ms() {
-        let mut session = Session::fresh();
-        ask(&mut session, Command::Poll);
-        assert_eq!(session.tick(9), Ok(NOTHING));
-        hear(&mut session, &[0x06, 0x03, 0xFF]); // skipped, and the wait goes on
-        let mut late = session.clone();
+        let mut host = Host::fresh();
+        host.ask(Command::Poll);
+        assert_eq!(host.tick(9), Ok(NOTHING));
+        host.hear(&[0x06, 0x03, 0xFF]); // skipped, and the wait goes on
+        let mut late = host.clone();
         assert_eq!(late.tick(1), Ok(closed(Closing::Silent)));
-        assert_eq!(hear(&mut session, &write(3, &[0x14]).unwrap()).closing, Some(Closing::Answered(Class::State)));
-        assert!(all_zero(&session));
+        assert_eq!(host.hear(&write(3, &[0x14]).unwrap()).closing, Some(Closing::Answered(Class::State)));
+        assert!(all_zero(&host));
     }
 
     #[test]
     fn a_frame_has_400_ms() {
-        let mut session = Session::fresh();
-        ask(&mut session, Command::Poll);
+        let mut host = Host::fresh();
+        host.ask(Command::Poll);
         let frame = write(3, &[0x14]).unwrap();
-        hear(&mut session, &frame[..5]);
-        assert_eq!(session.tick(399), Ok(NOTHING));
-        let mut late = session.clone();
+        // from 02h, and not from the last byte
+        host.hear(&frame[..3]);
+        assert_eq!(host.tick(300), Ok(NOTHING));
+        host.hear(&frame[3..5]);
+        assert_eq!(host.tick(99), Ok(NOTHING));
+        let mut late = host.clone();
         assert_eq!(late.tick(1), Ok(closed(Closing::Damaged(Damage::Late))));
         assert!(all_zero(&late));
-        assert_eq!(session.byte(frame[5]).closing, Some(Closing::Answered(Class::State)));
+        assert_eq!(host.byte(frame[5]).closing, Some(Closing::Answered(Class::State)));
     }
 
     #[test]
     fn damage_shows_at_its_byte() {
-        let mut session = Session::fresh();
-        ask(&mut session, Command::Poll);
-        assert_eq!(hear(&mut session, &[0x02, 0x04]), closed(Closing::Damaged(Damage::Address)));
-        ask(&mut session, Command::Poll);
-        assert_eq!(hear(&mut session, &[0x02, 0x03, 0x05]), closed(Closing::Damaged(Damage::Length)));
-        ask(&mut session, Command::Poll);
-        assert_eq!(hear(&mut session, &[0x02, 0x03, 0x06, 0x33, 0xDA, 0x80]), closed(Closing::Damaged(Damage::Check)));
-        ask(&mut session, Command::Poll);
+        let mut host = Host::fresh();
+        host.ask(Command::Poll);
+        assert_eq!(host.hear(&[0x02, 0x04]), closed(Closing::Damaged(Damage::Address)));
+        host.ask(Command::Poll);
+        assert_eq!(host.hear(&[0x02, 0x03, 0x05]), closed(Closing::Damaged(Damage::Length)));
+        host.ask(Command::Poll);
+        assert_eq!(host.hear(&[0x02, 0x03, 0x06, 0x33, 0xDA, 0x80]), closed(Closing::Damaged(Damage::Check)));
+        host.ask(Command::Poll);
         let mut longest = write(3, &[0x33; 250]).unwrap();
         assert_eq!(longest.len(), 255);
-        assert_eq!(hear(&mut session, &longest), closed(Closing::Answered(Class::Unknown)));
-        ask(&mut session, Command::Poll);
+        assert_eq!(host.hear(&longest), closed(Closing::Answered(Class::Unknown)));
+        host.ask(Command::Poll);
         longest[100] ^= 1;
-        assert_eq!(hear(&mut session, &longest), closed(Closing::Damaged(Damage::Check)));
-        assert!(all_zero(&session));
+        assert_eq!(host.hear(&longest), closed(Closing::Damaged(Damage::Check)));
+        assert!(all_zero(&host));
     }
 
     #[test]
     fn what_closes_without_a_reply() {
-        let mut session = Session::fresh();
-        assert_eq!(exchange(&mut session, Command::Reset, &[0x00]), closed(Closing::Acknowledged));
-        assert_eq!(exchange(&mut session, Command::Stack, &[0xFF]), closed(Closing::RefusedByNak));
-        assert_eq!(exchange(&mut session, Command::Hold, &[0x30]), closed(Closing::Illegal));
-        assert_eq!(exchange(&mut session, Command::Poll, &[0x00]), closed(Closing::Acknowledged));
+        let mut host = Host::fresh();
+        assert_eq!(host.exchange(Command::Reset, &[0x00]), closed(Closing::Acknowledged));
+        assert_eq!(host.exchange(Command::Stack, &[0xFF]), closed(Closing::RefusedByNak));
+        assert_eq!(host.exchange(Command::Hold, &[0x30]), closed(Closing::Illegal));
+        assert_eq!(host.exchange(Command::Poll, &[0x00]), closed(Closing::Acknowledged));
     }
 
     #[test]
     fn type_24_unknown_23_credited() {
-        let mut session = Session::fresh();
-        assert_eq!(exchange(&mut session, Command::Poll, &[0x81, 24]), closed(Closing::Answered(Class::Unknown)));
-        assert_eq!(exchange(&mut session, Command::Poll, &[0x81, 23]).bill, Some(Bill::Credited));
-        assert_eq!(session.bills()[23], 1);
-        assert_eq!(session.bills().iter().sum::<u32>(), 1);
+        let mut host = Host::fresh();
+        assert_eq!(host.exchange(Command::Poll, &[0x81, 24]), closed(Closing::Answered(Class::Unknown)));
+        assert_eq!(host.exchange(Command::Poll, &[0x81, 23]).bill, Some(Bill::Credited));
+        assert_eq!(host.session.bills()[23], 1);
+        assert_eq!(host.session.bills().iter().sum::<u32>(), 1);
     }
 
     #[test]
     fn a_repeated_report_is_credited_once() {
         let stacked = [0x81, 3];
-        let mut session = Session::fresh();
-        exchange(&mut session, Command::Poll, &stacked);
-        assert_eq!(exchange(&mut session, Command::Poll, &stacked).bill, Some(Bill::Repeated));
+        let mut host = Host::fresh();
+        host.exchange(Command::Poll, &stacked);
+        assert_eq!(host.exchange(Command::Poll, &stacked).bill, Some(Bill::Repeated));
         // unknown bodies, ACK, NAK, illegal, damage, silence, RESET and answers to other commands do not come between
-        exchange(&mut session, Command::Poll, &[0x81, 24]);
-        exchange(&mut session, Command::Poll, &[0x00]);
-        exchange(&mut session, Command::Poll, &[0xFF]);
-        exchange(&mut session, Command::Poll, &[0x30]);
-        ask(&mut session, Command::Poll);
-        hear(&mut session, &[0x02, 0x05]);
-        ask(&mut session, Command::Poll);
-        session.tick(10).unwrap();
-        exchange(&mut session, Command::Reset, &[0x00]);
-        exchange(&mut session, Command::Stack, &[0x14]);
-        exchange(&mut session, Command::Hold, &[0x81, 4]);
-        assert_eq!(exchange(&mut session, Command::Poll, &stacked).bill, Some(Bill::Repeated));
+        host.exchange(Command::Poll, &[0x81, 24]);
+        host.exchange(Command::Poll, &[0x00]);
+        host.exchange(Command::Poll, &[0xFF]);
+        host.exchange(Command::Poll, &[0x30]);
+        host.ask(Command::Poll);
+        host.hear(&[0x02, 0x05]);
+        host.ask(Command::Poll);
+        host.tick(10).unwrap();
+        host.exchange(Command::Reset, &[0x00]);
+        host.exchange(Command::Stack, &[0x14]);
+        host.exchange(Command::Hold, &[0x81, 4]);
+        assert_eq!(host.exchange(Command::Poll, &stacked).bill, Some(Bill::Repeated));
         // busy does
-        exchange(&mut session, Command::Poll, &[0x15]);
-        assert_eq!(exchange(&mut session, Command::Poll, &stacked).bill, Some(Bill::Credited));
+        host.exchange(Command::Poll, &[0x15]);
+        assert_eq!(host.exchange(Command::Poll, &stacked).bill, Some(Bill::Credited));
         // and so does another type, or the same type elsewhere
-        exchange(&mut session, Command::Poll, &[0x81, 4]);
-        exchange(&mut session, Command::Poll, &stacked);
-        exchange(&mut session, Command::Poll, &[0x80, 3]);
-        exchange(&mut session, Command::Poll, &stacked);
-        assert_eq!((session.bills()[3], session.bills()[4]), (4, 1));
+        host.exchange(Command::Poll, &[0x81, 4]);
+        host.exchange(Command::Poll, &stacked);
+        host.exchange(Command::Poll, &[0x80, 3]);
+        host.exchange(Command::Poll, &stacked);
+        assert_eq!((host.session.bills()[3], host.session.bills()[4]), (4, 1));
     }
 
     #[test]
     fn stacked_in_answer_to_another_command_is_not_credited() {
-        let mut session = Session::fresh();
-        let step = exchange(&mut session, Command::Stack, &[0x81, 3]);
+        let mut host = Host::fresh();
+        let step = host.exchange(Command::Stack, &[0x81, 3]);
         assert_eq!(step, closed(Closing::Answered(Class::Bill(Place::Stacked, 3))));
-        assert_eq!(session.bills()[3], 0);
-        assert_eq!(exchange(&mut session, Command::Poll, &[0x81, 3]).bill, Some(Bill::Credited));
+        assert_eq!(host.session.bills()[3], 0);
+        assert_eq!(host.exchange(Command::Poll, &[0x81, 3]).bill, Some(Bill::Credited));
+    }
+
+    #[test]
+    fn what_is_sent_stands_at_the_rooms_start_and_nowhere_else() {
+        let mut host = Host::fresh();
+        host.tick(20).unwrap();
+        let step = host.request(Command::Stack).unwrap();
+        assert_eq!(host.sent(step), write(3, &[0x35]).unwrap());
+        let step = host.hear(&write(3, &[0x14]).unwrap());
+        assert_eq!(host.sent(step), write(3, &[0x00]).unwrap());
+        host.ask(Command::Poll);
+        let step = host.hear(&[0x02, 0x04]);
+        assert_eq!(host.sent(step), write(3, &[0xFF]).unwrap());
+        host.ask(Command::Poll);
+        host.byte(SYNC);
+        let step = host.tick(400).unwrap();
+        assert_eq!(host.sent(step), write(3, &[0xFF]).unwrap());
+        assert!(host.room[6..].iter().all(|&byte| byte == 0xEE));
+    }
+
+    #[test]
+    fn a_room_under_255_bytes_is_refused_with_1_and_reaches_nothing() {
+        let mut host = Host::fresh();
+        host.ask(Command::Poll);
+        let room = &mut [0xEE; 254];
+        let before = format!("{:?}", host.session);
+        assert_eq!(host.session.request(Command::Poll, room), Err(Declined::Room));
+        assert_eq!(host.session.byte(SYNC, room), Err(Declined::Room));
+        assert_eq!(host.session.tick(0, room), Err(Declined::Room));
+        assert_eq!((format!("{:?}", host.session), *room), (before, [0xEE; 254]));
     }
 }
