@@ -8,6 +8,7 @@
 //     session account:
 //
 // A call that sends, closes or is refused says so in a line of its own.
+use dispenser_frame::Answer;
 use dispenser_rules::Closing;
 use dispenser_rules::Reply;
 use dispenser_rules::Session;
@@ -192,18 +193,15 @@ fn show_sent(put: usize, lent: &[u8]) {
 fn show_closing(closing: Closing) {
     match closing {
         Closing::Nothing => {}
-        Closing::Answered(_, listed) => show_answered(listed),
+        Closing::Answered(answer, listed) => show_answered(answer, listed),
         Closing::Refused => sheet::print_text(b"    closed, refused\n"),
         Closing::Unknown => sheet::print_text(b"    closed, unknown\n"),
     }
 }
 
-fn show_answered(listed: bool) {
-    if listed {
-        sheet::print_text(b"    closed, answered, error listed\n");
-    } else {
-        sheet::print_text(b"    closed, answered, error unlisted\n");
-    }
+fn show_answered(answer: Answer, listed: bool) {
+    sheet::print_text(b"    closed, answered");
+    sheet_answer::print_read(answer, listed);
 }
 
 fn print_sums(name: &[u8], s: Sums) {

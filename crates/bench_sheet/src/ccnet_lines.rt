@@ -5,11 +5,9 @@
 //     validator ACK, room 6:
 //     validator NAK, room 6:
 //     validator reads, poll: 02 03 06 33 DA 81
-//     validator turns each bit, poll: 02 03 06 33 DA 81
 //     validator says, stacked: 81 17
 //
 // A body or data of so many bytes is so many times 41h.
-ghost use Prim.Native.Nat.{_≤_};
 use ccnet_frame::Class;
 use ccnet_frame::Judged;
 use refusals::Put;
@@ -20,10 +18,6 @@ pub(crate) fn run(line: &[u8]) {
     let letter = sheet::letter(line, 1);
     if letter == b'r' {
         read(line);
-        return;
-    }
-    if letter == b't' {
-        turn(line);
         return;
     }
     if letter == b's' {
@@ -116,69 +110,6 @@ fn print_body(body: &[u8]) {
     sheet::print_text(b"\n");
 }
 
-// The frame with each of its bits turned, one at a time.
-fn turn(line: &[u8]) {
-    let mut store = [0u8; 32];
-    let n = sheet::frame(line, &mut store);
-    turn_in(n, &mut store);
-}
-
-fn turn_in(n: usize, store: &mut [u8]) {
-    let end = sheet::at_most(n, store);
-    sheet::print_bytes(&store[0..end]);
-    sheet::print_form(b" -> refused #\n", &[turn_each(end, store)]);
-}
-
-// How many of the frames with one bit turned are refused.
-fn turn_each(end: usize, store: &mut [u8]) -> u32 {
-    let mut refused: u32 = 0;
-    let mut i: usize = 0;
-    while i < end {
-        refused = refused % 65_536 + turn_byte(i, end, store);
-        i += 1;
-    }
-    refused
-}
-
-// How many of the eight frames with one bit of a byte turned are refused.
-fn turn_byte(i: usize, end: usize, store: &mut [u8]) -> u32
-    ensures { λ r. ⌜ r ≤ 8 ⌝ }
-{
-    let mut refused: u32 = 0;
-    let mut k: u32 = 0;
-    let mut bit: u8 = 1;
-    while k < 8 {
-        refused += turned(i, bit, end, store);
-        bit = bit % 128 * 2;
-        k += 1;
-    }
-    refused
-}
-
-// 1 where the frame with that bit of that byte turned is refused. The byte is put back.
-fn turned(i: usize, bit: u8, end: usize, store: &mut [u8]) -> u32
-    ensures { λ r. ⌜ r ≤ 1 ⌝ }
-{
-    if store.len() <= i {
-        return 0;
-    }
-    let was = store[i];
-    store[i] = was ^ bit;
-    let found = is_refused(end, store);
-    store[i] = was;
-    found
-}
-
-fn is_refused(end: usize, store: &[u8]) -> u32
-    ensures { λ r. ⌜ r ≤ 1 ⌝ }
-{
-    let n = sheet::at_most(end, store);
-    match ccnet_frame::judge(&store[0..n]) {
-        Judged::Good { address: _ } => 0,
-        Judged::Refused(_) => 1,
-    }
-}
-
 fn say(line: &[u8]) {
     let mut store = [0u8; 32];
     let n = sheet::frame(line, &mut store);
@@ -196,13 +127,17 @@ fn print_class(class: Class) {
         Class::Ack => sheet::print_text(b" -> ACK\n"),
         Class::Nak => sheet::print_text(b" -> NAK\n"),
         Class::Illegal => sheet::print_text(b" -> illegal command\n"),
-        Class::State(b) => sheet::print_form(b" -> state $\n", &[b as u32]),
-        Class::Busy(b) => sheet::print_form(b" -> busy $\n", &[b as u32]),
-        Class::Rejecting(b) => sheet::print_form(b" -> rejecting $\n", &[b as u32]),
-        Class::Failing(b) => sheet::print_form(b" -> failing $\n", &[b as u32]),
-        Class::Escrow(b) => sheet::print_form(b" -> escrow of type #\n", &[b as u32]),
-        Class::Stacked(b) => sheet::print_form(b" -> stacked type #\n", &[b as u32]),
-        Class::Returned(b) => sheet::print_form(b" -> returned type #\n", &[b as u32]),
+        Class::State(b) => print_value(b" -> state $\n", b),
+        Class::Busy(b) => print_value(b" -> busy $\n", b),
+        Class::Rejecting(b) => print_value(b" -> rejecting $\n", b),
+        Class::Failing(b) => print_value(b" -> failing $\n", b),
+        Class::Escrow(b) => print_value(b" -> escrow of type #\n", b),
+        Class::Stacked(b) => print_value(b" -> stacked type #\n", b),
+        Class::Returned(b) => print_value(b" -> returned type #\n", b),
         Class::Unknown => sheet::print_text(b" -> unknown\n"),
     }
+}
+
+fn print_value(s: &[u8], b: u8) {
+    sheet::print_form(s, &[b as u32]);
 }

@@ -2,9 +2,7 @@
 //
 //     write command, room 24: 45h upper 10 lower 0
 //     read command, five bytes: 04 50 02 44 03
-//     count codes that can be sent with upper 0 lower 0
 use dispenser_frame::CommandRead;
-use dispenser_frame::is_sendable;
 use refusals::Put;
 
 // A command's code and counts.
@@ -39,17 +37,4 @@ pub(crate) fn found(s: &[u8]) {
         }
         CommandRead::Refused(why) => sheet::print_fault(why.number()),
     }
-}
-
-// How many of the 256 codes can be sent with those counts.
-pub(crate) fn codes(upper: u32, lower: u32) -> usize {
-    let mut n: usize = 0;
-    let mut code: u32 = 0;
-    while code < 256 {
-        if is_sendable(code as u8, upper, lower) {
-            n += 1;
-        }
-        code += 1;
-    }
-    n
 }

@@ -60,7 +60,7 @@ fn show(kind: Kind, line: &[u8]) {
             &[sheet::number(line, 4)],
         ),
         Kind::Command => command_lines::show_given(line),
-        Kind::Answer => answer_lines::show(answer_lines::given(line)),
+        Kind::Answer => sheet_answer::print_answer(answer_lines::given(line)),
     }
 }
 
@@ -116,7 +116,6 @@ fn found(kind: Kind, s: &[u8]) {
 
 // Counts what the line's second word names:
 //
-//     count codes that can be sent with upper 0 lower 0:
 //     count bytes of the answer to 44h:
 //     count listed error bytes:
 pub(crate) fn count(line: &[u8]) {
@@ -128,9 +127,6 @@ pub(crate) fn count(line: &[u8]) {
 
 fn counted(line: &[u8]) -> usize {
     let letter = sheet::letter(line, 1);
-    if letter == b'c' {
-        return command_lines::codes(sheet::number(line, 8), sheet::number(line, 10));
-    }
     if letter == b'b' {
         return dispenser_frame::answer_length(sheet::byte(line, 6));
     }

@@ -1,4 +1,4 @@
--- Bytes laid one after another at the start of a room are all of them laid there. Assumes nothing.
+-- AllBytes laid one after another at the start of a room are all of them laid there. Assumes nothing.
 use Prim.Native.Nat.{ℕ, _+_, _-_, _/_, _%_, _≤_, _<_}
 use mathlib.Core.Path.{_≡_, sym, ap, _∙_}
 use mathlib.Core.List.{List, [], _∷_, _++_, append-assoc, append-nil}

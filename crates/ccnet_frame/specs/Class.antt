@@ -52,6 +52,17 @@ classOf (b ∷ []) = oneByte b
 classOf (a ∷ b ∷ []) = twoBytes a b
 classOf (a ∷ b ∷ c ∷ s) = Unknown
 
+-- "Poll answers: one byte 10h to 15h, 17h to 1Ah, 41h to 46h; two bytes 1Bh with any; 1Ch with 60h to 6Ah or 6Ch; 47h with 50h to 56h or 5Fh; 80h (escrow), 81h
+-- (stacked), 82h (returned) with a bill type 0 to 23": a body that is listed, told by its bytes and by no class
+abbrev pub listed : List ℕ → Condition
+listed [] = never
+listed (b ∷ []) = either (within 0x10 0x15 b) (either (within 0x17 0x1A b) (within 0x41 0x46 b))
+listed (a ∷ b ∷ []) =
+    either (same a 0x1B)
+    (either (both (same a 0x1C) (either (within 0x60 0x6A b) (same b 0x6C)))
+    (either (both (same a 0x47) (either (within 0x50 0x56 b) (same b 0x5F))) (both (within 0x80 0x82 a) (within 0 23 b))))
+listed (a ∷ b ∷ c ∷ s) = never
+
 -- the bytes of each class; an unknown body has none of its own
 abbrev pub classBytes : Class → List ℕ
 classBytes Ack = 0x00 ∷ []

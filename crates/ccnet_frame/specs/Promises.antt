@@ -1,14 +1,15 @@
 -- What is promised of CCNET frames: the statements, proved in proofs/Trips.antt, proofs/Exact.antt and proofs/Classes.antt.
 use Prim.Native.Nat.{ℕ, _≤_}
 use mathlib.Core.Path.{_≡_}
-use mathlib.Core.List.{List, []}
+use mathlib.Core.List.{List, [], _∷_}
 use mathlib.Core.Logic.{_↔_}
 use lib.ListN.{length, getD, take}
-use Rattle.refusals.specs.Rules.{Exactly}
+use Rattle.refusals.specs.Rules.{Exactly, numbered}
+use Rattle.refusals.specs.Numbers.{refusalNumber}
 use Rattle.refusals.specs.Put.{written, refused, laid}
 use Rattle.numbers.specs.Promises.{AllBytes}
 use Rattle.refusals.specs.declared.Put.the-variants.{Bytes}
-use Rattle.ccnet_frame.specs.Frame.{frame, frameRefusals, writeFrame, faults, judgeFrame, bodyOf}
+use Rattle.ccnet_frame.specs.Frame.{faultNumber, frame, frameRefusals, writeFrame, faults, judgeFrame, bodyOf}
 use Rattle.ccnet_frame.specs.Class.{classOf, classBytes, isNamed}
 use Rattle.ccnet_frame.specs.declared.frame.Fault.{Fault}
 use Rattle.ccnet_frame.specs.declared.frame.Judged.the-variants.{Good, Refused}
@@ -35,6 +36,12 @@ pub record ExactlyWhen : Type 0 where
   pub write : (address : ℕ) (body room : List ℕ)
       → Exactly (frameRefusals address body room) (λ why. refused why room) (laid (frame address body) room) (writeFrame address body room)
   pub read : (s : List ℕ) → Exactly (faults s) Refused (Good (getD s 1 0)) (judgeFrame s)
+
+-- 01's numbers in its order: of the reader "under 6 bytes, 11; 02h and address, 12; length byte against the bytes given, 11; 15"; of a
+-- writer 2, 1, 2
+pub record InOrder : Type 0 where
+  pub read : (s : List ℕ) → numbered faultNumber (faults s) ≡ 11 ∷ 12 ∷ 11 ∷ 15 ∷ []
+  pub write : (address : ℕ) (body room : List ℕ) → numbered refusalNumber (frameRefusals address body room) ≡ 2 ∷ 1 ∷ 2 ∷ []
 
 -- every body falls in one class; a listed class is that of its bytes, and its bytes are the body; unknown is exactly the rest
 pub record Classes : Type 0 where

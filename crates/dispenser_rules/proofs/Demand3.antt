@@ -1,4 +1,4 @@
--- Demand 3 of the two cassettes: the one theorem, used for the Model 2000T. Assumes nothing.
+-- Demand 3 of the two cassettes, what every call answers and the numbers 1 to 6, told from the history: the one theorem, used for the Model 2000T. Assumes nothing.
 use Prim.Native.Nat.{ℕ, _≤_}
 use mathlib.Core.Path.{_≡_, refl}
 use mathlib.Core.Bool.{true}
@@ -15,16 +15,16 @@ use Rattle.dispenser_frame.specs.declared.answer.Cassette.{Cassette}
 use Rattle.dispenser_frame.specs.declared.answer.Cassette.the-variants.{Upper, Lower}
 use Rattle.exchange_rules.specs.Limits.{commandLimit}
 use Rattle.exchange_rules.specs.Sums.{freshSums}
-use Rattle.exchange_rules.specs.Machine.{requestRefusals as refusals, historyRefusals}
+use Rattle.exchange_rules.specs.Machine.{request as asks, requestRefusals as refusals, historyRefusals}
 use Rattle.exchange_rules.specs.Kept.{settled}
 use Rattle.exchange_rules.proofs.Bounds.{bounded-longer}
 use Rattle.exchange_rules.proofs.Keeping.{settled-most}
-use Rattle.exchange_rules.proofs.Demand3.{Kept, new-sound, new-tracks, demand3 as demand3-of, run-kept, alike-at}
-use Rattle.dispenser_rules.specs.Session.{freshSession, requestRefusals}
+use Rattle.exchange_rules.proofs.Demand3.{Kept, new-sound, new-tracks, demand3 as demand3-of, told-by-history as told-of, carried-by-bytes as carried-of, run-kept, alike-at}
+use Rattle.dispenser_rules.specs.Session.{freshSession, requestRefusals, byteRefusals, tickRefusals}
 use Rattle.dispenser_rules.specs.Account.{freshAccount}
-use Rattle.dispenser_rules.specs.Calls.{Call, Request, Own, host, history}
+use Rattle.dispenser_rules.specs.Calls.{Call, request, byte, tick, Request, Own, host, history}
 use Rattle.dispenser_rules.specs.Unit.{cassette, unit, box}
-use Rattle.dispenser_rules.specs.History.{TwoCassettes, AlwaysSound, NeverCut, DeclinesByHistory}
+use Rattle.dispenser_rules.specs.History.{TwoCassettes, AlwaysSound, NeverCut, ToldByHistory, CarriedByBytes, DeclinesByHistory}
 use Rattle.dispenser_rules.proofs.Shown.{lawful}
 use Rattle.dispenser_rules.proofs.Same.{session}
 use Rattle.dispenser_rules.proofs.Exact.{exactly-when}
@@ -42,7 +42,7 @@ fresh-kept =
       tracks = new-tracks unit _ freshAccount (replicate 21 0) fresh-sums (length-replicate {A = ℕ} 21 0);
     }
 
-rises : (h : History Request Own Ending) (q : Request) (r : List ℕ) → rising (historyRefusals unit h q r) ≡ true
+rises : (h : History Request Own Ending) (q : Request) (r : List ℕ) → rising (historyRefusals unit h (asks q r)) ≡ true
 unfolding historyRefusals
 rises h q r = refl
 
@@ -62,10 +62,18 @@ never-cut cs c =
     let few : settled (s .line .phase) (s .line .accepted) ≤ commandLimit = le-trans (settled-most (s .line .phase) (s .line .accepted)) (k .commands) in
     bounded-longer (k .books c) (mul-le-mul-left 99 (k .commands)) (mul-le-mul-left 99 few)
 
--- the numbers 3, 4 and 5 of the history
+pub told-by-history : ToldByHistory
+told-by-history = told-of lawful session freshSession fresh-kept
+
+pub carried-by-bytes : CarriedByBytes
+carried-by-bytes = carried-of lawful session freshSession fresh-kept
+
+-- the numbers of the history
 pub declines-by-history : DeclinesByHistory
-unfolding requestRefusals refusals
-declines-by-history cs code upper lower r =
+unfolding requestRefusals refusals byteRefusals tickRefusals historyRefusals
+declines-by-history cs (request code upper lower r) =
     let s = run host freshSession cs in
     let q : Request = record { code = code; upper = upper; lower = lower } in
     given-alike (exactly-when .request s code upper lower r) (alike-at unit (box s) (history cs) q r (after-calls cs .tracks)) (rises (history cs) q r)
+declines-by-history cs (byte b r) = exactly-when .byte (run host freshSession cs) b r
+declines-by-history cs (tick ms r) = exactly-when .tick (run host freshSession cs) ms r

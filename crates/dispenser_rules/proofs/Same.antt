@@ -4,21 +4,19 @@ use mathlib.Core.Path.{_≡_, refl, sym, ap, _∙_, subst}
 use mathlib.Core.Bool.{Bool, true, false, cond}
 use mathlib.Core.List.{List, [], _∷_}
 use lib.Dec.{eqb}
-use lib.ListN.{length, set, take}
+use lib.ListN.{set, take}
 use Rattle.refusals.specs.Rules.{Rule, judged, same}
-use Rattle.refusals.proofs.Rules.{pick, either-way}
-use Rattle.ledger.specs.Events.{Event, Deed, asks, hears, waits}
-use Rattle.ledger.specs.Calls.{After as AfterCall, gave, did, told, seen}
-use Rattle.ledger.specs.Account.{Ending}
-use Rattle.refusals.specs.declared.Declined.{Declined}
+use Rattle.refusals.proofs.Rules.{either-way}
+use Rattle.ledger.specs.Calls.{After as AfterCall, gave, did}
 use Rattle.dispenser_frame.specs.Table.{answerLength}
 use Rattle.dispenser_frame.specs.Answer.{answerCode, readAnswer}
 use Rattle.dispenser_frame.specs.declared.answer.AnswerRead.{AnswerRead}
 use Rattle.dispenser_frame.specs.declared.answer.AnswerRead.the-variants.{Read, Refused as NotRead}
 use Rattle.exchange_rules.specs.Limits.{quiet}
 use Rattle.exchange_rules.specs.Exchange.{heard, badFrame, passed, closed}
-use Rattle.exchange_rules.specs.Machine.{Box, none, by-answer, by-refusal, by-doubt, left}
-use Rattle.exchange_rules.specs.Owed.{Session as SessionOver}
+use Rattle.ledger.specs.Told.{good, bad, by-refusal, by-doubt, ending as plain-ending}
+use Rattle.exchange_rules.specs.Machine.{Box, left}
+use Rattle.exchange_rules.specs.Owed.{saying, Session as SessionOver}
 use Rattle.exchange_rules.specs.Machine as machine
 use Rattle.exchange_rules.proofs.Closings.{Shut, ShutIn, bad-shut, heard-shut, passed-shut}
 use Rattle.exchange_rules.specs.declared.line.Line.{Line}
@@ -26,9 +24,9 @@ use Rattle.exchange_rules.specs.declared.line.Todo.{Todo}
 use Rattle.exchange_rules.specs.declared.line.Todo.the-variants.{Nothing as Rest, HandOver, Nak, LastNak, CloseRefused, CloseUnknown}
 use Rattle.exchange_rules.specs.declared.line.Heard.{Heard}
 use Rattle.exchange_rules.specs.declared.line.Heard.the-variants.{Keep, Judge, Do}
-use Rattle.dispenser_rules.specs.Session.{StepAfter, ByteAfter, OpeningAfter, After, openingAfter, refusedOpening, byteAfter, stepAfter, refusedStep, doneAfter, handOver, acted, badStep, judgedStep, judgeStep, byteActed, byteRefusals, tickRefusals, requestRefusals, byteStep, tickStep, requestStep, command, bookedBy, requestBooked, sessionRequest, sessionByte, sessionTick}
-use Rattle.dispenser_rules.specs.Calls.{Call, request, byte, tick, called, Request, Own, deed, returned, ending, host}
-use Rattle.dispenser_rules.specs.Unit.{Good, asked-of, verdict, unit, request-of, box}
+use Rattle.dispenser_rules.specs.Session.{StepAfter, ByteAfter, OpeningAfter, After, openingAfter, refusedOpening, byteAfter, stepAfter, refusedStep, doneAfter, acted, badStep, judgedStep, judgeStep, byteActed, byteRefusals, tickRefusals, requestRefusals, byteStep, tickStep, requestStep, bookedBy, requestBooked, sessionRequest, sessionByte, sessionTick}
+use Rattle.dispenser_rules.specs.Calls.{Call, request, byte, tick, called, Request, deed, returned, ending, host}
+use Rattle.dispenser_rules.specs.Unit.{Good, asked-of, verdict, unit, request-of, box, means, lent, plain-closing}
 use Rattle.dispenser_rules.specs.declared.account.Account.{Account}
 use Rattle.dispenser_rules.specs.declared.session.Asked.{Asked}
 use Rattle.dispenser_rules.specs.declared.session.Closing.{Closing}
@@ -39,12 +37,6 @@ use Rattle.dispenser_rules.specs.declared.session.Session.{Session}
 
 -- ---- what the shared session has of it
 
-abbrev pub plain-closing : Closing → machine.Closing Good
-plain-closing Nothing = none
-plain-closing (Answered answer listed) = by-answer (record { answer = answer; listed = listed })
-plain-closing Refused = by-refusal
-plain-closing Unknown = by-doubt
-
 abbrev pub plain-reply : Reply → machine.Reply Good
 plain-reply (NotDone why) = gave why
 plain-reply (Done n c) = did n (plain-closing c)
@@ -54,11 +46,6 @@ plain-after w = record { session = box (w .session); reply = plain-reply (w .rep
 
 abbrev pub plain-step : StepAfter → machine.StepAfter Good
 plain-step w = record { line = w .line; reply = plain-reply (w .reply); room = w .room }
-
-abbrev pub means : Call → machine.Call Request
-means (request code upper lower r) = machine.request (record { code = code; upper = upper; lower = lower }) r
-means (byte b r) = machine.byte b r
-means (tick ms r) = machine.tick ms r
 
 -- a call that is judged by rules, seen through a function
 through : {A B D : Type 0} (g : A → D) (rs : List (Rule B)) (f : B → A) (x : A) → g (judged rs f x) ≡ judged rs (λ why. g (f why)) (g x)
@@ -93,7 +80,7 @@ module _ (q : Request) (r : List ℕ) where
     where
       go : (t : Bool)
           → plain-step (cond t (doneAfter (closed l quiet) 1 (Answered answer listed) (set r 0 0x06)) (badStep l a r))
-          ≡ machine.judgedStep unit (cond t (machine.good (record { answer = answer; listed = listed })) machine.bad) l q r
+          ≡ machine.judgedStep unit (cond t (good (record { answer = answer; listed = listed })) bad) l q r
       go true = refl
       go false = bad-same l
   judged-same (NotRead fault) l = bad-same l
@@ -184,24 +171,26 @@ session-same s c e =
     subst (λ (x : Session). plain-after (called x c) ≡ machine.called unit (box x) (means c)) (kept-with s e)
     (called-same (s .line) (request-of (s .asked)) (s .account) (s .store) c)
 
--- what the caller is told is the same
-told-same : (d : Deed Request Own) (p : Reply) (r : List ℕ) → told ending d (returned p) r ≡ told machine.ending d (plain-reply p) r
-told-same d (NotDone why) r = refl
-told-same d (Done n Nothing) r = refl
-told-same d (Done n (Answered answer listed)) r = refl
-told-same d (Done n Refused) r = refl
-told-same d (Done n Unknown) r = refl
+-- what a call returned, its deed and its room are the same
+pub saying-same : (p : Reply) → saying plain-closing (returned p) ≡ plain-reply p
+saying-same (NotDone why) = refl
+saying-same (Done n c) = refl
 
-deed-same : (c : Call) → deed c ≡ machine.deed (means c)
+pub deed-same : (c : Call) → deed c ≡ machine.deed (means c)
 deed-same (request code upper lower r) = refl
 deed-same (byte b r) = refl
 deed-same (tick ms r) = refl
 
-pub seen-same : (s : Session) (c : Call) → Keeps s → seen host s c ≡ seen (machine.host unit) (box s) (means c)
-seen-same s c e =
-    told-same (deed c) (called s c .reply) (called s c .room)
-    ∙ ap (λ (d : Deed Request Own). told machine.ending d (plain-reply (called s c .reply)) (called s c .room)) (deed-same c)
-    ∙ ap (λ (w : AfterCall (Box Request Account) (machine.Reply Good)). told machine.ending (machine.deed (means c)) (w .reply) (w .room)) (session-same s c e)
+pub lent-same : (c : Call) → lent c ≡ machine.lent (means c)
+lent-same (request code upper lower r) = refl
+lent-same (byte b r) = refl
+lent-same (tick ms r) = refl
+
+pub ending-same : (c : Closing) → ending c ≡ plain-ending (plain-closing c)
+ending-same Nothing = refl
+ending-same (Answered answer listed) = refl
+ending-same Refused = refl
+ending-same Unknown = refl
 
 pub keeps-next : (s : Session) (c : Call) → Keeps s → Keeps (called s c .session)
 unfolding sessionRequest requestStep sessionByte sessionTick
@@ -217,7 +206,13 @@ session =
       keeps = Keeps;
       box = box;
       means = λ s c. means c;
+      says = plain-closing;
+      lends = lent;
       kept = keeps-next;
       same = λ s c e k. ap (λ w. w .session) (session-same s c e);
-      told = λ s c e k. seen-same s c e;
+      answers = λ s c e k. saying-same (called s c .reply) ∙ ap (λ w. w .reply) (session-same s c e);
+      room = λ s c e k. ap (λ w. w .room) (session-same s c e);
+      deeds = λ s c. deed-same c;
+      rooms = λ s c. lent-same c;
+      endings = ending-same;
     }

@@ -1,16 +1,15 @@
 -- The Model 2000T keeps to what a unit of the shared session has to: its frames, and its two cassettes booked by what an answer's bytes say. Assumes nothing.
-use Prim.Native.Nat.{ℕ, _+_, _-_, _≤_, _<_}
+use Prim.Native.Nat.{ℕ, _≤_, _<_}
 use mathlib.Core.Path.{_≡_, refl, sym, ap, ap₂, _∙_, subst}
-use mathlib.Core.Bool.{Bool, true, false, cond}
+use mathlib.Core.Bool.{Bool, false}
 use mathlib.Core.List.{List, []}
 use mathlib.Core.Logic.{⊎-elim}
 use native.Mathlib.Omega.{arith}
-use lib.Dec.{eqb, lit≤}
-use lib.ListN.{length, take}
+use lib.Dec.{lit≤}
+use lib.ListN.{length}
 use Rattle.refusals.specs.Rules.{same}
-use Rattle.refusals.specs.Put.{laid, refused as not-put}
+use Rattle.refusals.specs.Put.{over, laid, refused as not-put}
 use Rattle.refusals.proofs.Rules.{pick, first-judged, none-judged, first-or-none, holds-true}
-use Rattle.refusals.proofs.Writing.{take-over}
 use Rattle.xor_frame.specs.Layout.{allInRange, allValues}
 use Rattle.dispenser_frame.specs.Table.{table, lineIn, line, known, asks, commandFields, answerFields, answerLength, row, none, purged}
 use Rattle.xor_frame.specs.Frame.{codeOf}
@@ -26,16 +25,15 @@ use Rattle.xor_frame.proofs.Lengths.{length-known}
 use Rattle.dispenser_frame.proofs.Codes.{by-code, command-most, answer-most}
 use Rattle.dispenser_frame.proofs.Trips.{command-length}
 use Rattle.exchange_rules.specs.Sums.{sumsOpened, sumsAnswered, sumsRefused, sumsUnknown}
-use Rattle.exchange_rules.specs.Machine.{Verdict, bad, good, void}
+use Rattle.ledger.specs.Told.{Verdict, good}
 use Rattle.exchange_rules.specs.Owed.{Lawful}
 use Rattle.exchange_rules.specs.declared.notes.Sums.{Sums}
 use Rattle.exchange_rules.proofs.Shown.{rejected-answered, left-answered}
 use Rattle.dispenser_rules.specs.Account.{freshAccount, accountOpened, accountRefused, accountUnknown, accountAnswered}
 use Rattle.dispenser_rules.specs.Session.{handOver, bytesPut}
 use Rattle.dispenser_rules.specs.Calls.{Request}
-use Rattle.dispenser_rules.specs.Unit.{wanted, two, exitOf, rejectsOf, model2000T, layout, cassette, Good, asked-of, verdict, unit}
+use Rattle.dispenser_rules.specs.Unit.{wanted, two, exitOf, rejectsOf, layout, cassette, Good, asked-of, verdict, unit}
 use Rattle.dispenser_rules.specs.declared.account.Account.{Account}
-use Rattle.dispenser_rules.specs.declared.session.Asked.{Asked}
 use Rattle.dispenser_rules.proofs.Ranges.{sent-modest, answer-fits}
 
 -- ---- what a good answer's bytes say, by digit place
@@ -154,15 +152,15 @@ module _ (a : Account) (q : Request) (sent : sendable (q .code) (q .upper) (q .l
 
 -- ---- its frames
 
-pub handed-put : (q : Request) (r : List ℕ) → sendable (q .code) (q .upper) (q .lower) .holds → 16 ≤ length r
-    → take (handOver (asked-of q) r .put) (handOver (asked-of q) r .room) ≡ layout q
+handed-laid : (q : Request) (r : List ℕ) → sendable (q .code) (q .upper) (q .lower) .holds → 16 ≤ length r
+    → unit .hands q r ≡ record { put = length (layout q); room = over (layout q) r }
 unfolding handOver writeCommand commandRefusals sendable
-handed-put q r h long =
+handed-laid q r h long =
     let f = commandFrame (q .code) (q .upper) (q .lower) in
     let n = length-known known commandFields (q .code) (holds-true (known (q .code)) (h .0)) in
     let w = none-judged (λ why. not-put why r) (laid f r) (commandRefusals (q .code) (q .upper) (q .lower) r)
     ((λ x. x (h .0)), ((λ x. omega (arith, n, command-most (q .code))), ((λ x. x (h .1)), tt))) in
-    ap (λ v. take (bytesPut (v .answer)) (v .room)) w ∙ take-over f r
+    ap (λ v. record { put = bytesPut (v .answer); room = v .room }) w
 
 answer-long : (code upper lower : ℕ) → sendable code upper lower .holds → 1 < answerLength code
 unfolding sendable
@@ -190,7 +188,7 @@ loses-by a q Lower = refl
 pub lawful : Lawful unit
 lawful =
     record {
-      laid = handed-put;
+      laid = handed-laid;
       long = λ q h. omega (arith, command-length (q .code) (q .upper) (q .lower) h);
       least = λ q h. answer-long (q .code) (q .upper) (q .lower) h;
       most = λ q h. answer-most (q .code);

@@ -1,17 +1,17 @@
--- What is promised of a session of the Model 2000T after any calls at all from a fresh one, told from their history: demand 3, and the numbers 3, 4 and 5. What a
--- history gives is defined in the room `ledger`: from the calls, what they returned and the bytes accepted. Nothing there names the session. Proved in
--- proofs/Demand3.antt.
-use Prim.Native.Nat.{ℕ}
+-- What is promised of a session of the Model 2000T after any calls at all from a fresh one, told from their history: demand 3, what every call answers, and the
+-- numbers 1 to 6. What a history gives is defined in the room `ledger`: from the calls, what they returned and the bytes accepted. Nothing there names the session.
+-- Proved in proofs/Demand3.antt.
 use mathlib.Core.List.{List}
 use Rattle.ledger.specs.Calls.{run, Declines}
 use Rattle.ledger.specs.Sent.{Demand3}
+use Rattle.ledger.specs.Told.{Told, Carried}
 use Rattle.exchange_rules.specs.Limits.{handOvers, commandLimit}
-use Rattle.exchange_rules.specs.Machine.{plain, historyRefusals}
+use Rattle.exchange_rules.specs.Machine.{discipline, plain, historyRefusals}
 use Rattle.exchange_rules.specs.Kept.{Within, Sound}
 use Rattle.dispenser_frame.specs.declared.answer.Cassette.{Cassette}
-use Rattle.dispenser_rules.specs.Session.{freshSession, sessionRequest}
-use Rattle.dispenser_rules.specs.Calls.{Call, host, history}
-use Rattle.dispenser_rules.specs.Unit.{model2000T, layout, cassette, unit, box}
+use Rattle.dispenser_rules.specs.Session.{freshSession}
+use Rattle.dispenser_rules.specs.Calls.{Call, called, host, history}
+use Rattle.dispenser_rules.specs.Unit.{model2000T, layout, cassette, unit, box, means, lent, plain-closing}
 
 -- demand 3 (`ledger`), of the two cassettes
 abbrev pub TwoCassettes : Type 0
@@ -25,8 +25,15 @@ AlwaysSound = (cs : List Call) → Sound unit (box (run host freshSession cs))
 abbrev pub NeverCut : Type 0
 NeverCut = (cs : List Call) (c : Cassette) → Within 99 commandLimit commandLimit (cassette (run host freshSession cs .account) c)
 
--- "Requests can meet 1 to 5": a request is declined exactly as the history says
+-- every accepted call puts the bytes and returns the closing that are due by the history (`ledger`), and leaves every other byte of the room as it was
+abbrev pub ToldByHistory : Type 0
+ToldByHistory = Told host plain-closing lent model2000T (discipline unit) freshSession
+
+-- the fields that a closing by an answer carries are those of the last bytes accepted, from which the sums are read
+abbrev pub CarriedByBytes : Type 0
+CarriedByBytes = Carried host plain-closing model2000T (discipline unit) freshSession
+
+-- "Requests can meet 1 to 5, received bytes 1, ticks 1 and 6": a call is declined exactly as the history says
 abbrev pub DeclinesByHistory : Type 0
-DeclinesByHistory = (cs : List Call) (code upper lower : ℕ) (r : List ℕ)
-    → Declines host (historyRefusals unit (history cs) (record { code = code; upper = upper; lower = lower }) r) (run host freshSession cs) r
-    (sessionRequest (run host freshSession cs) code upper lower r)
+DeclinesByHistory = (cs : List Call) (c : Call)
+    → Declines host (historyRefusals unit (history cs) (means c)) (run host freshSession cs) (lent c) (called (run host freshSession cs) c)

@@ -6,7 +6,8 @@ use lib.Dec.{eqb}
 use lib.ListN.{take, drop}
 use Rattle.numbers.specs.Decimal.{number}
 use Rattle.ledger.specs.Account.{Dispenser}
-use Rattle.exchange_rules.specs.Machine.{Verdict, bad, good, Model, Box}
+use Rattle.ledger.specs.Told.{Verdict, bad, good, Closing as PlainClosing, none, by-answer, by-refusal, by-doubt}
+use Rattle.exchange_rules.specs.Machine.{Model, Box, Call as PlainCall, request as asks, byte as hears, tick as waits}
 use Rattle.exchange_rules.specs.declared.notes.Sums.{Sums}
 use Rattle.dispenser_frame.specs.Table.{answerLength}
 use Rattle.dispenser_frame.specs.Command.{sendable, commandFrame}
@@ -18,9 +19,11 @@ use Rattle.dispenser_frame.specs.declared.answer.AnswerRead.{AnswerRead}
 use Rattle.dispenser_frame.specs.declared.answer.AnswerRead.the-variants.{Read, Refused as NotRead}
 use Rattle.dispenser_rules.specs.Account.{accountOpened, accountAnswered, accountRefused, accountUnknown}
 use Rattle.dispenser_rules.specs.Session.{handOver, command}
-use Rattle.dispenser_rules.specs.Calls.{Request}
+use Rattle.dispenser_rules.specs.Calls.{Call, request, byte, tick, Request}
 use Rattle.dispenser_rules.specs.declared.account.Account.{Account}
 use Rattle.dispenser_rules.specs.declared.session.Asked.{Asked}
+use Rattle.dispenser_rules.specs.declared.session.Closing.{Closing}
+use Rattle.dispenser_rules.specs.declared.session.Closing.the-variants.{Nothing, Answered, Refused, Unknown}
 use Rattle.dispenser_rules.specs.declared.session.Session.{Session}
 
 -- ---- what its bytes say
@@ -101,3 +104,21 @@ request-of a = record { code = a .code; upper = a .upper; lower = a .lower }
 -- which session over the unit a session is
 abbrev pub box : Session → Box Request Account
 box s = record { line = s .line; asks = request-of (s .asked); account = s .account; store = s .store }
+
+-- which call each is, and the room that it is lent
+abbrev pub means : Call → PlainCall Request
+means (request code upper lower r) = asks (record { code = code; upper = upper; lower = lower }) r
+means (byte b r) = hears b r
+means (tick ms r) = waits ms r
+
+abbrev pub lent : Call → List ℕ
+lent (request code upper lower r) = r
+lent (byte b r) = r
+lent (tick ms r) = r
+
+-- which closing each is: one by an answer carries the answer, and whether its error byte is listed
+abbrev pub plain-closing : Closing → PlainClosing Good
+plain-closing Nothing = none
+plain-closing (Answered answer listed) = by-answer (record { answer = answer; listed = listed })
+plain-closing Refused = by-refusal
+plain-closing Unknown = by-doubt

@@ -1,5 +1,5 @@
 -- Where the exchange says that a command closes, the line stands as after a closing: so a unit that asks no more quiet leaves it as it is. Assumes nothing.
-use Prim.Native.Nat.{ℕ, _+_, _-_}
+use Prim.Native.Nat.{ℕ, _+_}
 use mathlib.Core.Path.{_≡_, refl}
 use Rattle.refusals.specs.Rules.{under, same}
 use Rattle.refusals.proofs.Rules.{pick}
@@ -15,24 +15,24 @@ use Rattle.exchange_rules.specs.declared.line.Heard.{Heard}
 use Rattle.exchange_rules.specs.declared.line.Heard.the-variants.{Keep, Judge, Do}
 use Rattle.exchange_rules.specs.declared.line.Hearing.{Hearing}
 
--- the line stands as after a closing that asks so much quiet
-abbrev pub Rests : ℕ → Line → Type 0
-Rests n l = closed l n ≡ l
+-- the line, closed where it is to be
+abbrev pub rested : Todo → Line → Line
+rested Nothing l = l
+rested HandOver l = l
+rested Nak l = l
+rested LastNak l = closed l longQuiet
+rested CloseRefused l = closed l quiet
+rested CloseUnknown l = closed l longQuiet
 
 abbrev pub Shut : Todo → Line → Type 0
-Shut Nothing l = Unit {0}
-Shut HandOver l = Unit {0}
-Shut Nak l = Unit {0}
-Shut LastNak l = Rests longQuiet l
-Shut CloseRefused l = Rests quiet l
-Shut CloseUnknown l = Rests longQuiet l
+Shut t l = rested t l ≡ l
 
 abbrev ShutBy : Turn → Type 0
 ShutBy t = Shut (t .todo) (t .line)
 
 abbrev pub ShutIn : Heard → Line → Type 0
-ShutIn Keep l = Unit {0}
-ShutIn Judge l = Unit {0}
+ShutIn Keep l = l ≡ l
+ShutIn Judge l = l ≡ l
 ShutIn (Do t) l = Shut t l
 
 abbrev ShutAt : Hearing → Type 0
@@ -42,29 +42,29 @@ module _ (l : Line) where
   first-shut : (b : ℕ) → ShutAt (firstByte l b)
   unfolding firstByte
   first-shut b =
-      pick ShutAt (same b 0x06) _ _ (λ h. tt)
-      (λ n. pick ShutAt (same b _) _ _ (λ h. pick ShutAt (under (l .handed) _) _ _ (λ g. tt) (λ g. refl)) (λ m. refl))
+      pick ShutAt (same b 0x06) _ _ (λ h. refl)
+      (λ n. pick ShutAt (same b _) _ _ (λ h. pick ShutAt (under (l .handed) _) _ _ (λ g. refl) (λ g. refl)) (λ m. refl))
 
   pub bad-shut : ShutBy (badFrame l)
   unfolding badFrame
-  bad-shut = pick ShutBy (under (l .naks) _) _ _ (λ h. tt) (λ n. refl)
+  bad-shut = pick ShutBy (under (l .naks) _) _ _ (λ h. refl) (λ n. refl)
 
   pub heard-shut : (n b : ℕ) → ShutAt (heard l n b)
   unfolding heard startByte insideByte
   heard-shut n b = by (l .phase)
     where
       by : (p : Phase) → ShutAt (heardIn p l n b)
-      by Idle = tt
+      by Idle = refl
       by First = first-shut b
-      by Start = pick ShutAt (same b 0x01) _ _ (λ h. tt) (λ n. tt)
-      by Inside = pick ShutAt (under (l .gathered + 1) n) _ _ (λ h. tt) (λ n. tt)
+      by Start = pick ShutAt (same b 0x01) _ _ (λ h. refl) (λ n. refl)
+      by Inside = pick ShutAt (under (l .gathered + 1) n) _ _ (λ h. refl) (λ n. refl)
 
   pub passed-shut : (ms : ℕ) → ShutBy (passed l ms)
   unfolding passed expired
-  passed-shut ms = pick ShutBy (under ms (l .left)) _ _ (λ h. tt) (λ n. by (l .phase))
+  passed-shut ms = pick ShutBy (under ms (l .left)) _ _ (λ h. refl) (λ n. by (l .phase))
     where
       by : (p : Phase) → ShutBy (expiredIn p l)
-      by Idle = tt
+      by Idle = refl
       by First = refl
       by Start = refl
       by Inside = bad-shut

@@ -1,31 +1,36 @@
--- Demand 3, and the numbers 3, 4 and 5 of the history, of any session over any lawful unit: once over the cassettes. Assumes nothing.
+-- Demand 3, what every call answers and the numbers 3, 4 and 5, told from the history, of any session over any lawful unit: once over the cassettes. Assumes
+-- nothing.
 use Prim.Native.Nat.{ℕ}
 use mathlib.Core.Path.{_≡_, refl, sym, ap, _∙_, subst}
 use mathlib.Core.Bool.{true}
 use mathlib.Core.List.{List, [], _∷_}
 use native.Mathlib.Omega.{arith}
 use lib.Dec.{lit≤}
-use lib.ListN.{length}
+use lib.ListN.{length, take}
 use Rattle.refusals.specs.Rules.{says, under, atMost, _gives_}
 use Rattle.refusals.proofs.Rules.{Alike}
-use Rattle.ledger.specs.Events.{Event, History}
-use Rattle.ledger.specs.Calls.{Host, seen, run, historyFrom}
+use Rattle.ledger.specs.Events.{Deed, Left, Event, done, History}
+use Rattle.ledger.specs.Calls.{Returned, gave, did, told, Host, seen, run, historyFrom}
 use Rattle.ledger.specs.Line.{isOpen as isOpenIn, quietTime, quietNeeded, accepted}
-use Rattle.ledger.specs.Account.{Ending, commands, totals, sums}
-use Rattle.ledger.specs.Sent.{AtMost, Rightly, Demand3}
+use Rattle.ledger.specs.Account.{Ending, commands, totals}
+use Rattle.ledger.specs.Sent.{Demand3}
+use Rattle.ledger.specs.Told.{ending, Due, dueBy, Answers, Told, AnsweredBy, Carried}
 use Rattle.refusals.specs.declared.Declined.the-variants.{Open, Unquiet, Spent}
 use Rattle.ledger.proofs.Laws.{balanced}
 use Rattle.ledger.proofs.Follows.{OpenIn, At, follows-few}
 use Rattle.exchange_rules.specs.Limits.{quiet, handOvers, commandLimit}
 use Rattle.exchange_rules.specs.Exchange.{isOpen, freshLine}
 use Rattle.exchange_rules.specs.Sums.{freshSums}
-use Rattle.exchange_rules.specs.Machine.{Model, Box, plain, quietAfter, requestRefusals, historyRefusals, Call, request, byte, tick, called, host}
+use Rattle.exchange_rules.specs.Machine.{Model, Box, discipline, plain, quietAfter, requestRefusals, historyRefusals, Call, request, byte, tick, deed, called, host}
 use Rattle.exchange_rules.specs.Kept.{Bounded, Within, Sound}
-use Rattle.exchange_rules.specs.Owed.{Lawful, Session}
+use Rattle.exchange_rules.specs.Owed.{Lawful, saying, Session}
 use Rattle.exchange_rules.specs.declared.line.Phase.{Phase}
 use Rattle.exchange_rules.specs.declared.line.Phase.the-variants.{Idle, First, Start, Inside}
+use Rattle.exchange_rules.proofs.Views.{stage, view, rules, Tracks}
+use Rattle.exchange_rules.proofs.Told.{called-told}
 use Rattle.exchange_rules.proofs.Keeping.{request-sound, heard-sound, passed-sound}
-use Rattle.exchange_rules.proofs.Tracks.{stage, view, rules, Tracks, request-tracks, byte-tracks, tick-tracks, open-pending}
+use Rattle.exchange_rules.proofs.Fields.{called-carries}
+use Rattle.exchange_rules.proofs.Tracks.{request-tracks, byte-tracks, tick-tracks, open-pending}
 
 -- ---- a fresh session
 
@@ -76,7 +81,7 @@ module _ {R X A C : Type 0} (U : Model R X A C) where
 
   -- on a line that follows its history, both say the same of a request
   pub alike-at : {O : Type 0} (s : Box R A) (h : History R O Ending) (q : R) (r : List ℕ) → Tracks U s h
-      → Alike (requestRefusals U (s .line) q r) (historyRefusals U h q r)
+      → Alike (requestRefusals U (s .line) q r) (historyRefusals U h (request q r))
   unfolding requestRefusals historyRefusals
   alike-at s h q r t =
       (refl, (((λ w. w), λ w. w), λ n. (refl, (((λ w. w), λ w. w), λ m. by (s .line .phase) (t .place)))))
@@ -99,9 +104,9 @@ module _ {R X A C : Type 0} (U : Model R X A C) where
           λ n. (refl, (((λ w. omega (arith, x .wait, x .needed)), λ w. omega (arith, x .wait, x .needed)), λ m. spent)),
         ),
       )
-      by First x = busy (x .0)
-      by Start x = busy x
-      by Inside x = busy (x .0)
+      by First x = busy (x .is)
+      by Start x = busy (x .is)
+      by Inside x = busy (x .is)
 
 -- ---- any calls at all
 
@@ -112,12 +117,22 @@ module _ {R X A C S T P O Q : Type 0} {U : Model R X A C} {H : Host S T P R O Q 
     pub sound : Sound U (M .box s)
     pub tracks : Tracks U (M .box s) h
 
+  -- what its caller is told is what that of the shared session is
+  told-same : (d : Deed R O) (p : Returned Q) (r : List ℕ) → told (H .ending) d p r ≡ told ending d (saying (M .says) p) r
+  told-same d (gave why) r = refl
+  told-same d (did n c) r = ap (λ (e : Left Ending). done d (take n r) e) (M .endings c)
+
+  seen-same : (s : S) (t : T) → M .keeps s → Sound U (M .box s) → seen H s t ≡ seen (host U) (M .box s) (M .means s t)
+  seen-same s t e k =
+      told-same (H .deed s t) (H .returned (H .called s t .reply)) (H .called s t .room)
+      ∙ (λ i. told ending (M .deeds s t i) (M .answers s t e k i) (M .room s t e k i))
+
   next-kept : (s : S) (h : History R O Ending) (t : T) → Kept s h → Kept (H .called s t .session) (seen H s t ∷ h)
   next-kept s h t k =
       record {
         own = M .kept s t (k .own);
         sound = subst (Sound U) (sym (M .same s t (k .own) (k .sound))) (called-sound U K (M .box s) h (k .sound) (k .tracks) (M .means s t));
-        tracks = subst (λ (e : Event R O Ending). Tracks U (M .box (H .called s t .session)) (e ∷ h)) (sym (M .told s t (k .own) (k .sound)))
+        tracks = subst (λ (e : Event R O Ending). Tracks U (M .box (H .called s t .session)) (e ∷ h)) (sym (seen-same s t (k .own) (k .sound)))
             (subst (λ (b : Box R A). Tracks U b (seen (host U) (M .box s) (M .means s t) ∷ h)) (sym (M .same s t (k .own) (k .sound)))
             (called-tracks U K (M .box s) h (k .sound) (k .tracks) (M .means s t)));
       }
@@ -137,3 +152,26 @@ module _ {R X A C S T P O Q : Type 0} {U : Model R X A C} {H : Host S T P R O Q 
         few = λ ts. follows-few (rules U) (view U (M .box (run H s ts))) (historyFrom H s [] ts) (run-kept s [] ts k .tracks);
         rightly = λ ts. run-kept s [] ts k .tracks .rightly;
       }
+
+  -- and every call answers what is due
+  answers-same : (w : Due X) (l : List ℕ) (p : Returned Q) (r : List ℕ) → Answers (λ c. c) w l (saying (M .says) p) r → Answers (M .says) w l p r
+  answers-same w l (gave why) r a = a
+  answers-same w l (did n c) r a = a
+
+  pub told-by-history : (s : S) → Kept s [] → Told H (M .says) (M .lends) (U .bytes) (discipline U) s
+  told-by-history s k ts t =
+      let x = run-kept s [] ts k in
+      let b = run H s ts in
+      let h = historyFrom H s [] ts in
+      answers-same (dueBy (U .bytes) (discipline U) h (H .deed b t)) (M .lends t) (H .returned (H .called b t .reply)) (H .called b t .room)
+      (rw (M .deeds b t, M .rooms b t, M .answers b t (x .own) (x .sound), M .room b t (x .own) (x .sound))
+      (called-told U K (M .box b) h (x .sound) (x .tracks) (M .means b t)))
+
+  -- with what the bytes say from which the sums are read
+  pub carried-by-bytes : (s : S) → Kept s [] → Carried H (M .says) (U .bytes) (discipline U) s
+  carried-by-bytes s k ts t n c x e g =
+      let y = run-kept s [] ts k in
+      let b = run H s ts in
+      subst (λ (e : Event R O Ending). AnsweredBy (U .bytes) (discipline U) (e ∷ historyFrom H s [] ts) x) (sym (seen-same b t (y .own) (y .sound)))
+      (called-carries U K (M .box b) (historyFrom H s [] ts) (y .sound) (y .tracks) (M .means b t) n x
+      (sym (M .answers b t (y .own) (y .sound)) ∙ ap (saying (M .says)) e ∙ ap (did n) g))

@@ -2,21 +2,20 @@
 use Prim.Native.Nat.{ℕ, _+_, _-_, _*_, _≤_, _<_}
 use mathlib.Core.Path.{_≡_, refl, sym, ap, _∙_, subst}
 use mathlib.Core.Bool.{true}
-use mathlib.Core.List.{List, [], _∷_}
+use mathlib.Core.List.{List}
 use native.Mathlib.Nat.{le-refl, le-of-eq}
 use native.Mathlib.Omega.{arith}
 use lib.Dec.{lit≤, lit<}
 use lib.ListN.{length, set, take, length-set}
 use Rattle.refusals.specs.Rules.{under, same, NoneOf}
+use Rattle.ledger.specs.Told.{Verdict, bad, good, void}
 use Rattle.ledger.specs.Calls.{After}
 use Rattle.refusals.proofs.Rules.{pick, either-way, certain}
 use Rattle.exchange_rules.specs.Limits.{quiet, answerWait, nakWait, frameWait, handOvers, nakLimit, commandLimit}
-use Rattle.exchange_rules.specs.Exchange.{isOpen, opened, handedAgain, closed, starting, inside, waits, firstByte, badFrame, startByte, insideByte, heardIn, heard, expiredIn, expired, passed}
-use Rattle.exchange_rules.specs.Sums.{sumsOpened, sumsRefused, sumsUnknown}
-use Rattle.exchange_rules.specs.Machine.{Model, Verdict, bad, good, void, Reply, Box, StepAfter, ByteAfter, shut, acted, badStep, judgedStep, judgeStep, byteActed, byteRefusals, tickRefusals, requestRefusals, next, opening, left, called-request, heardStep, ofStep, called-byte, called-tick}
+use Rattle.exchange_rules.specs.Exchange.{isOpen, handedAgain, closed, starting, inside, waits, firstByte, badFrame, startByte, insideByte, heardIn, heard, expiredIn, expired, passed}
+use Rattle.exchange_rules.specs.Machine.{Model, Reply, Box, acted, badStep, judgedStep, judgeStep, byteActed, byteRefusals, tickRefusals, requestRefusals, next, opening, left, called-request, heardStep, called-byte, called-tick}
 use Rattle.exchange_rules.specs.Kept.{Live, Stands, settled, Within, Sound}
 use Rattle.exchange_rules.specs.Owed.{Lawful}
-use Rattle.exchange_rules.specs.declared.notes.Sums.{Sums}
 use Rattle.exchange_rules.specs.declared.line.Phase.{Phase}
 use Rattle.exchange_rules.specs.declared.line.Phase.the-variants.{Idle, First, Start, Inside}
 use Rattle.exchange_rules.specs.declared.line.Line.{Line}
@@ -172,7 +171,7 @@ module _ {R X A C : Type 0} (U : Model R X A C) where
     heard-turns b = by (l .phase) refl
       where
         by : (p : Phase) → l .phase ≡ p → Heeds l q (heardIn p l (U .bytes .span q) b)
-        by Idle e = goes-on l q (l .quiet) st
+        by Idle e = goes-on l q _ st
         by First e = first-turns K l q (live First e refl) b
         by Start e = start-turns K l q (live Start e refl) b st
         by Inside e = gathered-turns K l q (live Inside e refl) st

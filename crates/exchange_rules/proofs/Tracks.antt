@@ -2,29 +2,33 @@
 -- Assumes nothing.
 use Prim.Native.Nat.{ℕ, _+_, _-_, _*_, _≤_, _<_}
 use mathlib.Core.Path.{_≡_, refl, sym, ap, _∙_, subst}
-use mathlib.Core.Bool.{true, false}
-use mathlib.Core.List.{List, [], _∷_, _++_, append-assoc, append-nil}
+use mathlib.Core.Bool.{true, false, cond}
+use mathlib.Core.List.{List, [], _∷_, _++_, append-nil}
 use mathlib.Core.Logic.{inl, inr}
 use native.Mathlib.Numerals.{add-one}
 use native.Mathlib.Omega.{arith}
 use native.Mathlib.Nat.{le-trans, mul-le-mul-left, mul-le-mul-right}
-use lib.Dec.{lit≤}
+use lib.Dec.{lit≤, eqb}
 use lib.ListN.{length, take, set, length-set}
 use lib.Seq.{length-take-le, take-suc-set}
 use borrow.Author.Tests.{lt-ltb}
 use Rattle.refusals.specs.Rules.{under, atMost, same}
-use Rattle.refusals.proofs.Rules.{pick, either-way, certain}
-use Rattle.ledger.specs.Events.{Deed, asks, hears, waits as passes, own, goes-on, closes, done, History, isFrame, bytes, since}
-use Rattle.ledger.specs.Line.{isOpen as isOpenIn, quietTime, quietNeeded, accepted}
+use Rattle.refusals.proofs.Rules.{pick, either-way, certain, holds-true, fails-false, cond-true, cond-false}
+use Rattle.refusals.proofs.Writing.{take-over}
+use Rattle.ledger.specs.Events.{Deed, asks, hears, waits as passes, own, goes-on, closes, done, History, isFrame, taken, bytes, since}
+use Rattle.ledger.specs.Line.{quietTime, accepted}
 use Rattle.ledger.specs.Account.{Ending, answered, refused, unknown, Totals, waiting, answered-by, turned-down, in-doubt, lastOf, commands, with-share, totals, sums}
+use Rattle.ledger.specs.Told.{Verdict, bad, good, void, none, by-answer, by-refusal, by-doubt, ending, begun, turns}
 use Rattle.ledger.specs.Calls.{After, told}
 use Rattle.ledger.specs.Sent.{Sends}
-use Rattle.ledger.proofs.Laws.{last-of, OnLine, since-more}
-use Rattle.ledger.proofs.Follows.{Stage, idle, first, start, inside, View, Rules, OpenIn, IdleIn, At, Follows, declined-follows, open-still, idle-still, still-follows, open-kept, fate-by, again-follows, closes-follows, opened-follows}
+use Rattle.ledger.specs.Waiting.{some, waited}
+use Rattle.ledger.proofs.Laws.{OnLine, since-more}
+use Rattle.ledger.proofs.Waiting.{some-more, some-added, some-long, begun-sent, waited-sent, begun-tick, waited-tick, begun-next, begun-came, unbegun-first, waited-first, waited-start, waited-skip, waited-inside}
+use Rattle.ledger.proofs.Follows.{OpenIn, IdleIn, FirstIn, StartIn, At, Follows, View, declined-follows, open-still, idle-still, still-follows, open-kept, fate-by, again-follows, closes-follows, opened-follows}
 use Rattle.exchange_rules.specs.Limits.{quiet, longQuiet, answerWait, nakWait, frameWait, handOvers, nakLimit}
-use Rattle.exchange_rules.specs.Exchange.{isOpen, turn, hearing, closed, handedAgain, starting, inside as within, waits, opened, firstByte, badFrame, startByte, insideByte, heardIn, heard, expiredIn, expired, passed}
-use Rattle.exchange_rules.specs.Machine.{Model, Verdict, bad, good, void, Reply, Box, StepAfter, ByteAfter, none, by-answer, by-refusal, by-doubt, doneAfter, ending, quietAfter, shut, acted, badStep, judgedStep, judgeStep, byteActed, byteRefusals, tickRefusals, requestRefusals, next, opening, left, called-request, heardStep, ofStep, called-byte, called-tick, plain}
-use Rattle.exchange_rules.specs.Kept.{Live, Stands, settled, Sound}
+use Rattle.exchange_rules.specs.Exchange.{isOpen, turn, hearing, closed, handedAgain, starting, inside as within, waits, firstByte, badFrame, startByte, insideByte, heardIn, heard, expiredIn, expired, passed}
+use Rattle.exchange_rules.specs.Machine.{Model, Reply, Box, StepAfter, doneAfter, quietAfter, shut, acted, badStep, judgedStep, judgeStep, byteActed, byteRefusals, tickRefusals, requestRefusals, next, opening, left, called-request, heardStep, called-byte, called-tick, plain}
+use Rattle.exchange_rules.specs.Kept.{Live, settled, Sound}
 use Rattle.exchange_rules.specs.Owed.{Lawful}
 use Rattle.exchange_rules.specs.declared.line.Phase.{Phase}
 use Rattle.exchange_rules.specs.declared.line.Phase.the-variants.{Idle, First, Start, Inside}
@@ -33,52 +37,12 @@ use Rattle.exchange_rules.specs.declared.line.Todo.the-variants.{Nothing
 use Rattle.exchange_rules.specs.declared.line.Heard.the-variants.{Keep, Do}
 use Rattle.exchange_rules.specs.declared.line.Hearing.{Hearing}
 use Rattle.exchange_rules.specs.declared.line.Turn.{Turn}
-use Rattle.exchange_rules.specs.declared.notes.Sums.{Sums}
 use Rattle.exchange_rules.proofs.Shown.{Roomy, together, apart, shows-opened, shows-refused, shows-unknown, shows-answered}
 use Rattle.exchange_rules.proofs.Bounds.{bounded-longer, bounded-wider}
 use Rattle.exchange_rules.proofs.Keeping.{settled-most}
-
-abbrev pub stage : Phase → Stage
-stage Idle = idle
-stage First = first
-stage Start = start
-stage Inside = inside
-
--- what is put at the start of a room that is long enough
-pub one-put : (r : List ℕ) (b : ℕ) → 0 < length r → take 1 (set r 0 b) ≡ b ∷ []
-one-put r b h = take-suc-set r 0 b h
-
--- nothing, and a single byte, is no frame
-none-frame : isFrame [] ≡ false
-unfolding isFrame
-none-frame = refl
-
-one-frame : (b : ℕ) → isFrame (b ∷ []) ≡ false
-unfolding isFrame
-one-frame b = refl
+use Rattle.exchange_rules.proofs.Views.{one-put, none-frame, one-frame, stage, view, rules, Tracks, at, stood, yet, grown, full-last}
 
 module _ {R X A C : Type 0} (U : Model R X A C) where
-  -- ---- the session, as its history can tell
-
-  abbrev pub view : Box R A → View R C
-  view s =
-      record {
-        stage = stage (s .line .phase);
-        asks = s .asks;
-        handed = s .line .handed;
-        gathered = take (s .line .gathered) (s .store);
-        quiet = s .line .quiet;
-        left = s .line .left;
-        count = s .line .accepted;
-        kept = λ c. plain (U .cassette (s .account) c);
-      }
-
-  abbrev pub rules : Rules R C
-  rules = record { unit = U .bytes; layout = U .layout; limit = handOvers; after = quietAfter U; fresh = quiet }
-
-  abbrev pub Tracks : {O : Type 0} → Box R A → History R O Ending → Type 0
-  Tracks s h = Follows rules (view s) h
-
   -- a sound session's sums have room
   pub roomy : Lawful U → (s : Box R A) → Sound U s → (c : C) → Roomy (U .cassette (s .account) c)
   roomy K s k c =
@@ -90,6 +54,10 @@ module _ {R X A C : Type 0} (U : Model R X A C) where
   layout-frame : Lawful U → (q : R) → U .sendable q .holds → isFrame (U .layout q) ≡ true
   unfolding isFrame
   layout-frame K q h = lt-ltb 1 (length (U .layout q)) (K .long q h)
+
+  -- what is put is the frame
+  layout-put : Lawful U → (q : R) (r : List ℕ) → U .sendable q .holds → 16 ≤ length r → take (U .hands q r .put) (U .hands q r .room) ≡ U .layout q
+  layout-put K q r h long = ap (λ w. take (w .put) (w .room)) (K .laid q r h long) ∙ take-over (U .layout q) r
 
   -- another line and store, and the rest as it was
   abbrev moved : Box R A → Line → List ℕ → Box R A
@@ -111,13 +79,6 @@ module _ {R X A C O : Type 0} (U : Model R X A C) where
     -- ---- the moves of a session, each with what its caller was told
 
     module _ (s : Box R A) (h : History R O Ending) (k : Sound U s) (t : Tracks U s h) where
-      -- the place and the stand, in a phase that is known
-      at : {p : Phase} → s .line .phase ≡ p → At (rules U) (stage p) (view U s) h
-      at e = subst (λ (p : Phase). At (rules U) (stage p) (view U s) h) e (t .place)
-
-      stood : {p : Phase} → s .line .phase ≡ p → Stands U p (s .line) (s .asks)
-      stood e = subst (λ (p : Phase). Stands U p (s .line) (s .asks)) e (k .stands)
-
       module _ (d : Deed R O) (o : OnLine d) where
         -- nothing is put, and nothing closes
         quiet-good : (m : Line) (store : List ℕ) → m .accepted ≡ s .line .accepted
@@ -184,18 +145,27 @@ module _ {R X A C O : Type 0} (U : Model R X A C) where
                   subst (λ (put : List ℕ). Tracks U (next U s (doneAfter (shut U (s .asks) longQuiet (s .line)) 1 by-doubt (set r 0 0x15)) store) (done d put (closes unknown) ∷ h))
                   (sym (one-put r 0x15 long)) (lost-good (0x15 ∷ []) (one-frame 0x15) may)
 
-              nak-good : (left naks : ℕ) → Good s h d (doneAfter (starting (s .line) left naks) 1 none (set r 0 0x15)) store
-              nak-good left naks =
-                  let w = view U (moved U s (starting (s .line) left naks) store) in
+              nak-good : some (since h) ≡ true → (n : ℕ) → n ≡ s .line .naks + 1 → Good s h d (doneAfter (starting (s .line) nakWait n) 1 none (set r 0 0x15)) store
+              nak-good came n e =
+                  let w = view U (moved U s (starting (s .line) nakWait n) store) in
+                  let z = waited-sent h goes-on (0x15 ∷ []) d refl in
+                  let y : cond (eqb n 0) answerWait nakWait ≡ nakWait = cond-false _ _ (fails-false (same n 0) (λ q. omega (arith, e))) in
+                  let later : StartIn (rules U) w (done d (0x15 ∷ []) goes-on ∷ h) =
+                  record {
+                    is = open-still (rules U) o (one-frame 0x15) w refl refl e x;
+                    came = ap some (since-more h (0x15 ∷ []) goes-on d (one-frame 0x15)) ∙ some-more (since h) (taken d) came;
+                    unbegun = begun-sent h goes-on (0x15 ∷ []) d refl;
+                    wait = omega (arith, z, y);
+                  } in
                   subst (λ (put : List ℕ). Follows (rules U) w (done d put goes-on ∷ h)) (sym (one-put r 0x15 long))
-                  (still-follows (rules U) o (one-frame 0x15) w t (λ c. refl) refl may (open-still (rules U) o (one-frame 0x15) w refl refl x))
+                  (still-follows (rules U) o (one-frame 0x15) w t (λ c. refl) refl may later)
 
               -- a bad frame, or a late one
-              bad-good : (left : ℕ) → Good s h d (badStep U (waits (s .line) left) (s .asks) r) store
+              bad-good : some (since h) ≡ true → (left : ℕ) → Good s h d (badStep U (waits (s .line) left) (s .asks) r) store
               unfolding badStep badFrame
-              bad-good left =
+              bad-good came left =
                   pick (λ (u : Turn). Good s h d (acted U (u .todo) (u .line) (s .asks) r) store) (under (s .line .naks) (nakLimit - 1)) _ _
-                  (λ g. nak-good nakWait (s .line .naks + 1))
+                  (λ g. nak-good came (s .line .naks + 1) refl)
                   (λ n. nak-lose-good)
 
     -- ---- a byte
@@ -208,80 +178,101 @@ module _ {R X A C O : Type 0} (U : Model R X A C) where
           Good s h (hears b) (w .step) (w .store)
 
       -- a byte that is ignored, or skipped
-      idle-heard : s .line .phase ≡ Idle → Heard (hearing (waits (s .line) (s .line .quiet)) (Do Nothing))
+      idle-heard : s .line .phase ≡ Idle → (left : ℕ) → left ≡ s .line .quiet → Heard (hearing (waits (s .line) left) (Do Nothing))
       unfolding quietTime
-      idle-heard e =
-          let m = waits (s .line) (s .line .quiet) in
+      idle-heard e left whole =
+          let m = waits (s .line) left in
           quiet-good s h k t (hears b) tt m (s .store) refl
           (subst (λ (p : Phase). At (rules U) (stage p) (view U (moved U s m (s .store))) (done (hears b) [] goes-on ∷ h)) (sym e)
-          (idle-still (rules U) tt none-frame (view U (moved U s m (s .store))) refl (omega arith) (at s h k t e)))
+          (idle-still (rules U) tt none-frame (view U (moved U s m (s .store))) refl (omega (arith, whole)) (at U s h t e)))
 
-      skip-heard : s .line .phase ≡ Start → Heard (hearing (waits (s .line) (s .line .left)) (Do Nothing))
-      skip-heard e =
+      still-came : some (since h) ≡ true → some (since (done (hears b) [] goes-on ∷ h)) ≡ true
+      still-came c = ap some (since-more h [] goes-on (hears b) none-frame) ∙ some-more (since h) (b ∷ []) c
+
+      skip-heard : s .line .phase ≡ Start → (b ≡ 0x01 → ⊥) → Heard (hearing (waits (s .line) (s .line .left)) (Do Nothing))
+      skip-heard e n =
+          let x = at U s h t e in
+          let z : eqb b 0x01 ≡ false = fails-false (same b 0x01) n in
           let m = waits (s .line) (s .line .left) in
           quiet-good s h k t (hears b) tt m (s .store) refl
           (subst (λ (p : Phase). At (rules U) (stage p) (view U (moved U s m (s .store))) (done (hears b) [] goes-on ∷ h)) (sym e)
-          (open-still (rules U) tt none-frame (view U (moved U s m (s .store))) refl refl (at s h k t e)))
+          (record {
+            is = open-still (rules U) tt none-frame (view U (moved U s m (s .store))) refl refl (omega arith) (x .is);
+            came = still-came (x .came);
+            unbegun = begun-next h goes-on b (x .unbegun) ∙ cond-false _ _ z;
+            wait = omega (arith, x .wait, waited-skip h goes-on b (x .came) (x .unbegun) z);
+          }))
 
       -- the first byte since a hand-over; at 15h the frame is handed over again, and that is counted
-      again-heard : (x : OpenIn (rules U) (view U s) h) → since h ≡ [] → Live U (s .line) (s .asks) → b ≡ 0x15 → s .line .handed < handOvers
+      again-heard : FirstIn (rules U) (view U s) h → Live U (s .line) (s .asks) → b ≡ 0x15 → s .line .handed < handOvers
           → (n : ℕ) → n ≡ s .line .handed + 1 → Heard (hearing (handedAgain (s .line) n) (Do HandOver))
-      again-heard x fresh op z few n more =
+      again-heard y op z few n more =
           let w = view U (moved U s (handedAgain (s .line) n) (s .store)) in
-          subst (λ (put : List ℕ). Follows (rules U) w (done (hears b) put goes-on ∷ h)) (sym (K .laid (s .asks) r (op .sent) long))
+          subst (λ (put : List ℕ). Follows (rules U) w (done (hears b) put goes-on ∷ h)) (sym (layout-put U K (s .asks) r (op .sent) long))
           (subst (λ (b : ℕ). Follows (rules U) w (done (hears b) (U .layout (s .asks)) goes-on ∷ h)) (sym z)
-          (again-follows (rules U) (view U s) h t x w refl refl more (omega arith) (λ c. refl) refl fresh (layout-frame U K (s .asks) (op .sent))))
+          (again-follows (rules U) (view U s) h t (y .is) w refl refl more (omega arith) refl refl (λ c. refl) refl y (layout-frame U K (s .asks) (op .sent))))
 
       first-heard : s .line .phase ≡ First → Heard (firstByte (s .line) b)
       unfolding firstByte
       first-heard e =
-          let x = at s h k t e .0 in
-          let op = stood s h k t e in
+          let y = at U s h t e in
+          let x = y .is in
+          let op = stood U s k e in
           pick Heard (same b 0x06) _ _
           (λ g.
           let m = starting (s .line) answerWait (s .line .naks) in
-          quiet-good s h k t (hears b) tt m (s .store) refl (open-still (rules U) tt none-frame (view U (moved U s m (s .store))) refl refl x))
+          let z : cond (eqb (s .line .naks) 0) answerWait nakWait ≡ answerWait = cond-true _ _ (holds-true (same (s .line .naks) 0) (y .unsent)) in
+          quiet-good s h k t (hears b) tt m (s .store) refl
+          (record {
+            is = open-still (rules U) tt none-frame (view U (moved U s m (s .store))) refl refl (omega arith) x;
+            came = ap some (since-more h [] goes-on (hears b) none-frame) ∙ some-added (since h) b;
+            unbegun = begun-next h goes-on b (unbegun-first h (y .fresh)) ∙ cond-false _ _ (fails-false (same b 0x01) (λ w. omega (arith, g)));
+            wait = omega (arith, waited-first h goes-on b (y .fresh), z);
+          }))
           (λ n. pick Heard (same b _) _ _
           (λ g. pick Heard (under (s .line .handed) handOvers) _ _
-          (λ y. again-heard x (at s h k t e .1) op (omega (arith, g)) y _ (omega arith))
-          (λ y. refuse-good s h k t (hears b) tt x op r (s .store)))
+          (λ f. again-heard y op (omega (arith, g)) f _ (omega arith))
+          (λ f. refuse-good s h k t (hears b) tt x op r (s .store)))
           (λ m. lose-good s h k t (hears b) tt x op r (s .store)))
 
       -- bytes of an answer: the store holds the last that came
       kept-last : s .line .gathered < U .longest → take (s .line .gathered + 1) (set (s .store) (s .line .gathered) b) ≡ take (s .line .gathered) (s .store) ++ (b ∷ [])
       kept-last g = rw add-one (take-suc-set (s .store) (s .line .gathered) b (omega (arith, k .store)))
 
-      keep-heard : (left gathered : ℕ) (before : List ℕ) → gathered ≡ s .line .gathered + 1 → s .line .gathered < U .longest → OpenIn (rules U) (view U s) h
-          → bytes h ≡ before ++ take (s .line .gathered) (s .store)
+      keep-heard : (left gathered : ℕ) → 1 ≤ gathered → gathered ≤ U .longest → OpenIn (rules U) (view U s) h
+          → begun (done (hears b) [] goes-on ∷ h) ≡ take gathered (set (s .store) (s .line .gathered) b) → left ≡ frameWait - waited turns (done (hears b) [] goes-on ∷ h)
           → Heard (hearing (within (s .line) left gathered) Keep)
-      unfolding bytes
-      keep-heard left gathered before n g x e =
+      keep-heard left gathered least most x y z =
           let m = within (s .line) left gathered in
           let store = set (s .store) (s .line .gathered) b in
-          quiet-good s h k t (hears b) tt m store refl (
-            open-still (rules U) tt none-frame (view U (moved U s m store)) refl refl x,
-            record {
-              before = before;
-              came = ap (λ (l : List ℕ). l ++ (b ∷ [])) e ∙ append-assoc before (take (s .line .gathered) (s .store)) (b ∷ [])
-                  ∙ ap (λ (l : List ℕ). before ++ l) (sym (kept-last g) ∙ ap (λ (i : ℕ). take i store) (sym n));
-            },
-          )
+          quiet-good s h k t (hears b) tt m store refl
+          (record {
+            is = open-still (rules U) tt none-frame (view U (moved U s m store)) refl refl (omega arith) x;
+            gathers = y;
+            some-gathered = some-long (take gathered store) (omega (arith, length-take-le gathered store (omega (arith, length-set (s .store) (s .line .gathered) b, k .store))));
+            wait = z;
+          })
 
       start-heard : s .line .phase ≡ Start → Heard (startByte (s .line) b)
       unfolding startByte
       start-heard e =
-          let z = stood s h k t e .1 in
-          let op = stood s h k t e .0 in
-          let some : 0 < U .longest = omega (arith, K .least (s .asks) (op .sent), K .most (s .asks) (op .sent)) in
+          let z = stood U s k e .1 in
+          let op = stood U s k e .0 in
+          let x = at U s h t e in
+          let most : 1 ≤ U .longest = omega (arith, K .least (s .asks) (op .sent), K .most (s .asks) (op .sent)) in
           pick Heard (same b 0x01) _ _
           (λ g.
-          keep-heard frameWait 1 (bytes h) (omega (arith, z)) (omega (arith, z, some)) (at s h k t e)
-          (sym (append-nil (bytes h)) ∙ ap (λ (i : ℕ). bytes h ++ take i (s .store)) (sym z)))
-          (λ n. skip-heard e)
+          let one = holds-true (same b 0x01) g in
+          let store = set (s .store) (s .line .gathered) b in
+          keep-heard frameWait 1 (lit≤ tt) most (x .is)
+          (begun-next h goes-on b (x .unbegun) ∙ cond-true _ _ one
+          ∙ sym (ap (λ (i : ℕ). take i (s .store) ++ (b ∷ [])) z) ∙ sym (kept-last (omega (arith, z))) ∙ ap (λ (i : ℕ). take (i + 1) store) z)
+          (omega (arith, waited-start h goes-on b (x .came) (x .unbegun) one)))
+          (λ n. skip-heard e n)
 
       -- the frame is full and is judged: it is the last bytes that came
       module _ (x : OpenIn (rules U) (view U s) h) (op : Live U (s .line) (s .asks)) (store f : List ℕ)
-          (last : lastOf (U .bytes .span (s .asks)) (bytes h ++ (b ∷ [])) ≡ f) where
+          (came : some (since h) ≡ true) (last : lastOf (U .bytes .span (s .asks)) (bytes h ++ (b ∷ [])) ≡ f) where
         answer-good : (v : X) → U .judges (s .asks) f ≡ good v → (left : ℕ)
             → Good s h (hears b) (doneAfter (shut U (s .asks) quiet (waits (s .line) left)) 1 (by-answer v) (set r 0 0x06)) store
         unfolding bytes
@@ -301,7 +292,7 @@ module _ {R X A C O : Type 0} (U : Model R X A C) where
             (closes-good s h k t (hears b) tt x op (0x06 ∷ []) (one-frame 0x06) (inr (inl refl)) refused _ store (refused-kept s h k t (hears b) tt x op))
 
         judged-good : (v : Verdict X) → U .judges (s .asks) f ≡ v → (left : ℕ) → Good s h (hears b) (judgedStep U v (waits (s .line) left) (s .asks) r) store
-        judged-good bad e left = bad-good s h k t (hears b) tt x op r store (omega arith) (inr (inr (inl refl))) left
+        judged-good bad e left = bad-good s h k t (hears b) tt x op r store (omega arith) (inr (inr (inl refl))) came left
         judged-good (good v) e left = answer-good v e left
         judged-good void e left = void-good left
 
@@ -309,32 +300,25 @@ module _ {R X A C O : Type 0} (U : Model R X A C) where
       unfolding insideByte judgeStep
       inside-heard e =
           let n = U .bytes .span (s .asks) in
-          let x = at s h k t e .0 in
-          let y = at s h k t e .1 in
-          let op = stood s h k t e .0 in
-          let few = stood s h k t e .2 in
+          let y = at U s h t e in
+          let x = y .is in
+          let op = stood U s k e .0 in
+          let few = stood U s k e .2 in
           let most = K .most (s .asks) (op .sent) in
-          let short : s .line .gathered < U .longest = omega (arith, few, most) in
+          let store = set (s .store) (s .line .gathered) b in
           pick Heard (under (s .line .gathered + 1) n) _ _
-          (λ g. keep-heard (s .line .left) (s .line .gathered + 1) (y .before) refl short x (y .came))
+          (λ g. keep-heard (s .line .left) (s .line .gathered + 1) (omega arith) (omega (arith, few, most)) x (grown U K s h k t b e) (omega (arith, y .wait, waited-inside h goes-on b (yet U K s h k t b e))))
           (λ m.
           let full : n ≡ s .line .gathered + 1 = omega (arith, few) in
-          let store = set (s .store) (s .line .gathered) b in
           let f = take n store in
-          let whole : take (s .line .gathered) (s .store) ++ (b ∷ []) ≡ f = sym (kept-last short) ∙ ap (λ (i : ℕ). take i store) (sym full) in
-          let many : n ≡ length f = omega (arith, length-take-le n store (omega (arith, length-set (s .store) (s .line .gathered) b, k .store, most))) in
-          judged-good x op store f
-          (ap (λ (l : List ℕ). lastOf n (l ++ (b ∷ []))) (y .came)
-          ∙ ap (lastOf n) (append-assoc (y .before) (take (s .line .gathered) (s .store)) (b ∷ []) ∙ ap (λ (l : List ℕ). y .before ++ l) whole)
-          ∙ last-of (y .before) f n many)
-          (U .judges (s .asks) f) refl (s .line .left))
+          judged-good x op store f (begun-came h (yet U K s h k t b e)) (full-last U K s h k t b e full) (U .judges (s .asks) f) refl (s .line .left))
 
       heard-good : Heard (heard (s .line) (U .bytes .span (s .asks)) b)
       unfolding heard
       heard-good = by (s .line .phase) refl
         where
           by : (p : Phase) → s .line .phase ≡ p → Heard (heardIn p (s .line) (U .bytes .span (s .asks)) b)
-          by Idle e = idle-heard e
+          by Idle e = idle-heard e _ refl
           by First e = first-heard e
           by Start e = start-heard e
           by Inside e = inside-heard e
@@ -350,33 +334,54 @@ module _ {R X A C O : Type 0} (U : Model R X A C) where
       abbrev left-with : ℕ → View R C
       left-with left = view U (moved U s (waits (s .line) left) (s .store))
 
+      same-since : since (done (passes ms) [] goes-on ∷ h) ≡ since h
+      same-since = since-more h [] goes-on (passes ms) none-frame ∙ append-nil (since h)
+
       -- a wait that goes on, or quiet that has been reached
-      waiting-on : (left : ℕ) → (s .line .phase ≡ Idle → left ≡ s .line .left - ms) → Passed (turn (waits (s .line) left) Nothing)
-      unfolding quietTime bytes
+      waiting-on : (left : ℕ) → left ≡ s .line .left - ms → Passed (turn (waits (s .line) left) Nothing)
+      unfolding quietTime
       waiting-on left q =
-          quiet-good s h k t (passes ms) tt (waits (s .line) left) (s .store) refl (by (s .line .phase) q (t .place))
+          quiet-good s h k t (passes ms) tt (waits (s .line) left) (s .store) refl (by (s .line .phase) (t .place))
         where
-          by : (p : Phase) → (p ≡ Idle → left ≡ s .line .left - ms) → At (rules U) (stage p) (view U s) h → At (rules U) (stage p) (left-with left) (done (passes ms) [] goes-on ∷ h)
-          by Idle q x = idle-still (rules U) tt none-frame (left-with left) refl (omega (arith, q refl, x .wait)) x
-          by First q x = (open-still (rules U) tt none-frame (left-with left) refl refl (x .0), since-more h [] goes-on (passes ms) none-frame ∙ append-nil (since h) ∙ x .1)
-          by Start q x = open-still (rules U) tt none-frame (left-with left) refl refl x
-          by Inside q x =
-              (open-still (rules U) tt none-frame (left-with left) refl refl (x .0), record { before = x .1 .before; came = append-nil (bytes h) ∙ x .1 .came })
+          longer : waited turns (done (passes ms) [] goes-on ∷ h) ≡ waited turns h + ms
+          longer = waited-tick h goes-on ms
+
+          same-begun : begun (done (passes ms) [] goes-on ∷ h) ≡ begun h
+          same-begun = begun-tick h goes-on ms
+
+          still : OpenIn (rules U) (view U s) h → OpenIn (rules U) (left-with left) (done (passes ms) [] goes-on ∷ h)
+          still x = open-still (rules U) tt none-frame (left-with left) refl refl (omega arith) x
+
+          by : (p : Phase) → At (rules U) (stage p) (view U s) h → At (rules U) (stage p) (left-with left) (done (passes ms) [] goes-on ∷ h)
+          by Idle x = idle-still (rules U) tt none-frame (left-with left) refl (omega (arith, q, x .wait)) x
+          by First x = record { is = still (x .is); fresh = same-since ∙ x .fresh; unsent = x .unsent; wait = omega (arith, q, x .wait, longer) }
+          by Start x =
+              record {
+                is = still (x .is);
+                came = ap some same-since ∙ x .came;
+                unbegun = same-begun ∙ x .unbegun;
+                wait = omega (arith, q, x .wait, longer);
+              }
+          by Inside x =
+              record { is = still (x .is); gathers = same-begun ∙ x .gathers; some-gathered = x .some-gathered; wait = omega (arith, q, x .wait, longer) }
 
       expired-good : (ms < s .line .left → ⊥) → Passed (expired (s .line))
       unfolding expired badFrame badStep
       expired-good n = by (s .line .phase) refl
         where
           by : (p : Phase) → s .line .phase ≡ p → Passed (expiredIn p (s .line))
-          by Idle e = waiting-on 0 (λ i. omega (arith, certain (atMost (s .line .left) ms) (λ w. n (omega arith))))
-          by First e = lose-good s h k t (passes ms) tt (at s h k t e .0) (stood s h k t e) r (s .store)
-          by Start e = lose-good s h k t (passes ms) tt (at s h k t e) (stood s h k t e .0) r (s .store)
-          by Inside e = bad-good s h k t (passes ms) tt (at s h k t e .0) (stood s h k t e .0) r (s .store) (omega arith) (inr refl) (s .line .left)
+          by Idle e = waiting-on 0 (omega (arith, certain (atMost (s .line .left) ms) (λ w. n (omega arith))))
+          by First e = lose-good s h k t (passes ms) tt (at U s h t e .is) (stood U s k e) r (s .store)
+          by Start e = lose-good s h k t (passes ms) tt (at U s h t e .is) (stood U s k e .0) r (s .store)
+          by Inside e =
+              let x = at U s h t e in
+              bad-good s h k t (passes ms) tt (x .is) (stood U s k e .0) r (s .store) (omega arith) (inr refl)
+              (begun-came h (yet U K s h k t 0 e)) (s .line .left)
 
       passed-good : Passed (passed (s .line) ms)
       unfolding passed
       passed-good =
-          pick Passed (under ms (s .line .left)) _ _ (λ g. waiting-on (s .line .left - ms) (λ e. refl)) (λ n. expired-good n)
+          pick Passed (under ms (s .line .left)) _ _ (λ g. waiting-on (s .line .left - ms) refl) (λ n. expired-good n)
 
     -- ---- the three calls
 
@@ -393,8 +398,8 @@ module _ {R X A C O : Type 0} (U : Model R X A C) where
           → Tracks U (opening U s q) (done (asks q) (take (U .hands q r .put) (U .hands q r .room)) goes-on ∷ h)
       opened-good q r sent long x =
           let w = view U (opening U s q) in
-          subst (λ (put : List ℕ). Follows (rules U) w (done (asks q) put goes-on ∷ h)) (sym (K .laid q r sent long))
-          (opened-follows (rules U) (view U s) w h t x refl refl (lit≤ tt) refl (layout-frame U K q sent)
+          subst (λ (put : List ℕ). Follows (rules U) w (done (asks q) put goes-on ∷ h)) (sym (layout-put U K q r sent long))
+          (opened-follows (rules U) (view U s) w h t x refl refl refl refl (lit≤ tt) refl (layout-frame U K q sent)
           (λ c.
           ap plain (K .opens (s .account) q c)
           ∙ together (shows-opened (U .bytes) (U .cassette (s .account) c) (sums (U .bytes) h c) q c (roomy U K s k c) (apart (t .books c)) (x .over c) (le-trans (K .modest q c sent) (K .small)))))
@@ -428,6 +433,6 @@ module _ {R X A C O : Type 0} (U : Model R X A C) where
         where
           by : (p : Phase) → isOpen p ≡ true → s .line .phase ≡ p → U .cassette (s .account) c .pending .0 ≡ U .bytes .wants (s .asks) c
           by Idle o e = let z : _≡_ {A = ℕ} 0 1 = cc in absurd (omega arith)
-          by First o e = pending s h k t (hears 0) tt (at s h k t e .0) (stood s h k t e) c
-          by Start o e = pending s h k t (hears 0) tt (at s h k t e) (stood s h k t e .0) c
-          by Inside o e = pending s h k t (hears 0) tt (at s h k t e .0) (stood s h k t e .0) c
+          by First o e = pending s h k t (hears 0) tt (at U s h t e .is) (stood U s k e) c
+          by Start o e = pending s h k t (hears 0) tt (at U s h t e .is) (stood U s k e .0) c
+          by Inside o e = pending s h k t (hears 0) tt (at U s h t e .is) (stood U s k e .0) c

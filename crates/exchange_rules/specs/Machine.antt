@@ -4,13 +4,14 @@ use Prim.Native.Nat.{ℕ, _+_}
 use mathlib.Core.List.{List, [], _∷_}
 use lib.ListN.{length, take, set}
 use Rattle.refusals.specs.Rules.{Condition, Rule, says, under, atMost, within, isnt, judged, _gives_}
-use Rattle.ledger.specs.Events.{Deed, asks, hears, waits, Left, goes-on, closes, History}
+use Rattle.ledger.specs.Events.{Deed, asks, hears, waits, History}
 use Rattle.ledger.specs.Line.{isOpen as isOpenIn, quietTime, quietNeeded, accepted}
 use Rattle.ledger.specs.Account.{Ending, answered, refused, unknown, Dispenser, Totals}
 use Rattle.ledger.specs.Calls.{After, Returned, gave, did, Host}
+use Rattle.ledger.specs.Told.{Verdict, bad, good, void, Closing, none, by-answer, by-refusal, by-doubt, ending, Discipline}
 use Rattle.refusals.specs.declared.Declined.{Declined}
 use Rattle.refusals.specs.declared.Declined.the-variants.{Room, Range, Open, Unquiet, Spent, Tick}
-use Rattle.exchange_rules.specs.Limits.{quiet, longQuiet, leastRoom, commandLimit, longestTick}
+use Rattle.exchange_rules.specs.Limits.{quiet, longQuiet, firstWait, answerWait, nakWait, frameWait, handOvers, nakLimit, leastRoom, commandLimit, longestTick}
 use Rattle.exchange_rules.specs.Exchange.{opened, closed, isOpen, heard, badFrame, passed}
 use Rattle.exchange_rules.specs.declared.notes.Sums.{Sums}
 use Rattle.exchange_rules.specs.declared.line.Line.{Line}
@@ -18,13 +19,6 @@ use Rattle.exchange_rules.specs.declared.line.Todo.{Todo}
 use Rattle.exchange_rules.specs.declared.line.Todo.the-variants.{Nothing, HandOver, Nak, LastNak, CloseRefused, CloseUnknown}
 use Rattle.exchange_rules.specs.declared.line.Heard.{Heard}
 use Rattle.exchange_rules.specs.declared.line.Heard.the-variants.{Keep, Judge, Do}
-
--- what a full frame is to the command that is open: bad; its answer; or an answer which says that nothing was done, so that it is acknowledged and
--- the command closes as refused
-pub data Verdict (X : Type 0) : Type 0 where
-  bad : Verdict X
-  good : X → Verdict X
-  void : Verdict X
 
 -- bytes handed over, with the room as it is left
 pub record Handed : Type 0 where
@@ -47,13 +41,6 @@ pub record Model (R X A C : Type 0) : Type 1 where
   pub bytes : Dispenser R C
   pub longest : ℕ
   pub greatest : ℕ
-
--- how a call closed the open command, if it did
-pub data Closing (X : Type 0) : Type 0 where
-  none : Closing X
-  by-answer : X → Closing X
-  by-refusal : Closing X
-  by-doubt : Closing X
 
 -- what a call answers: no more than every call does
 abbrev pub Reply : Type 0 → Type 0
@@ -79,14 +66,6 @@ pub record ByteAfter (X : Type 0) : Type 0 where
 abbrev pub doneAfter : {X : Type 0} → Line → ℕ → Closing X → List ℕ → StepAfter X
 doneAfter l n c r = record { line = l; reply = did n c; room = r }
 
--- ---- what the history has of a call
-
-abbrev pub ending : {X : Type 0} → Closing X → Left Ending
-ending none = goes-on
-ending (by-answer x) = closes answered
-ending by-refusal = closes refused
-ending by-doubt = closes unknown
-
 -- "After an unknown closing the next command needs 95,200 ms of quiet instead of 5,200"
 abbrev pub lineQuiet : Ending → ℕ
 lineQuiet answered = quiet
@@ -94,6 +73,20 @@ lineQuiet refused = quiet
 lineQuiet unknown = longQuiet
 
 module _ {R X A C : Type 0} (U : Model R X A C) where
+  -- the waits and limits of its line
+  abbrev pub discipline : Discipline R X
+  discipline =
+      record {
+        layout = U .layout;
+        judges = U .judges;
+        hand-overs = handOvers;
+        naks = nakLimit;
+        first = firstWait;
+        answer = answerWait;
+        after-nak = nakWait;
+        frame = frameWait;
+      }
+
   -- the line at a closing: so much quiet, and what the unit asks beyond it
   abbrev pub shut : R → ℕ → Line → Line
   shut q n l = closed l (n + U .more q)
@@ -196,6 +189,12 @@ pub data Call (R : Type 0) : Type 0 where
   byte : ℕ → List ℕ → Call R
   tick : ℕ → List ℕ → Call R
 
+-- the room that is lent to it
+abbrev pub lent : {R : Type 0} → Call R → List ℕ
+lent (request q r) = r
+lent (byte b r) = r
+lent (tick ms r) = r
+
 abbrev pub deed : {R O : Type 0} → Call R → Deed R O
 deed (request q r) = asks q
 deed (byte b r) = hears b
@@ -211,9 +210,11 @@ module _ {R X A C : Type 0} (U : Model R X A C) where
   abbrev pub host : {O : Type 0} → Host (Box R A) (Call R) (Reply X) R O (Closing X) Ending
   host = record { called = called; deed = λ s c. deed c; returned = λ p. p; refused = gave; ending = ending }
 
-  -- "Requests can meet 1 to 5", told from the history
-  unfoldable pub historyRefusals : {O : Type 0} → History R O Ending → R → List ℕ → List (Rule Declined)
-  historyRefusals h q r =
+  -- "Requests can meet 1 to 5, received bytes 1, ticks 1 and 6", told from the history
+  unfoldable pub historyRefusals : {O : Type 0} → History R O Ending → Call R → List (Rule Declined)
+  historyRefusals h (byte b r) = under (length r) leastRoom gives Room ∷ []
+  historyRefusals h (tick ms r) = under (length r) leastRoom gives Room ∷ isnt (within 1 longestTick ms) gives Tick ∷ []
+  historyRefusals h (request q r) =
       under (length r) leastRoom gives Room
       ∷ isnt (U .sendable q) gives Range
       ∷ says (isOpenIn h) gives Open

@@ -1,7 +1,7 @@
 -- What a plain writer leaves, from what its code does: a room too short is refused, and bytes laid one by one or all at once are laid.
 -- Assumes nothing.
-use mathlib.Core.Path.{_≡_, sym, ap, ap₂, _∙_}
-use mathlib.Core.Logic.{⊎-elim}
+use mathlib.Core.Path.{_≡_, refl, sym, ap, ap₂, _∙_}
+use mathlib.Core.Logic.{inl, ⊎-elim}
 use mathlib.Core.List.{List, [], _∷_, _++_}
 use Prim.Native.Nat.{ℕ, suc, _≤_, _<_}
 use native.Mathlib.Nat.{le-refl}
@@ -12,9 +12,10 @@ use borrow.Author.Tests.{lt-ltb, le-ltb}
 use Rattle.refusals.specs.declared.Put.the-variants.{Bytes}
 use Rattle.refusals.specs.declared.Refusal.the-variants.{Room}
 use Rattle.refusals.specs.declared.Refusal.{Refusal}
-use Rattle.refusals.specs.Rules.{Rule, judged, NoneOf}
-use Rattle.refusals.specs.Put.{written, refused, laid, over, writing}
-use Rattle.refusals.proofs.Rules.{first-judged, none-judged, first-or-none}
+use Rattle.refusals.specs.Rules.{Rule, atMost, judged, NoneOf, Exactly}
+use Rattle.refusals.specs.Put.{written, refused, laid, over, writingRefusals, writing}
+use Rattle.refusals.specs.Promises.{WritingExactly}
+use Rattle.refusals.proofs.Rules.{first-judged, none-judged, first-or-none, exactly, certain}
 
 pub writing-refused : (bytes room : List ℕ) → length room < length bytes → refused Room room ≡ writing bytes room
 unfolding writing
@@ -60,3 +61,30 @@ done-laid rs bytes room n after e =
 pub take-over : (bytes room : List ℕ) → take (length bytes) (over bytes room) ≡ bytes
 unfolding over
 take-over bytes room = take-append-seam bytes (drop (length bytes) room)
+
+-- ---- each number exactly when it is due
+
+-- of a writer that lays bytes or leaves the room
+pub writes : (rs : List (Rule Refusal)) (bytes room : List ℕ)
+    → Exactly rs (λ why. refused why room) (laid bytes room) (judged rs (λ why. refused why room) (laid bytes room))
+writes rs bytes room =
+    exactly rs (λ why. refused why room) (laid bytes room)
+    (λ x y e. let a = ap (λ w. w .answer) e in cc)
+    (λ x e. let a = ap (λ w. w .answer) e in let z : _≡_ {A = ℕ} 0 1 = cc in omega arith)
+
+pub writing-exactly : WritingExactly
+unfolding writing
+writing-exactly =
+    record {
+      short = λ bytes room.
+          let w = writes (writingRefusals bytes room) bytes room .refused Room in (
+            λ e. ⊎-elim (λ h. h .0) (λ h. absurd (h .1)) (w .0 e),
+            λ h. w .1 (inl (h, refl)),
+          );
+      long = λ bytes room.
+          let w = writes (writingRefusals bytes room) bytes room .accepted in (
+            λ e. certain (atMost (length bytes) (length room)) (λ n. w .0 e .0 (omega arith)),
+            λ h. w .1 ((λ k. omega (arith, h, k)), tt),
+          );
+      number = refl;
+    }

@@ -2,3 +2,4 @@
 pub mod Rules
 pub mod Numbers
 pub mod Put
+pub mod Promises

@@ -3,7 +3,7 @@
 use Prim.Native.Nat.{ℕ}
 use mathlib.Core.List.{List, [], _∷_, _++_}
 use lib.ListN.{length, drop}
-use Rattle.refusals.specs.Rules.{under, firstOf, _gives_}
+use Rattle.refusals.specs.Rules.{Rule, under, judged, _gives_}
 use Rattle.refusals.specs.declared.Refusal.{Refusal}
 use Rattle.refusals.specs.declared.Refusal.the-variants.{Room}
 use Rattle.refusals.specs.declared.Put.{Put}
@@ -29,5 +29,8 @@ abbrev pub laid : List ℕ → List ℕ → Written
 laid bytes room = written (Bytes (length bytes)) (over bytes room)
 
 -- bytes of which nothing is asked: 1 where the room is under their own length
+abbrev pub writingRefusals : List ℕ → List ℕ → List (Rule Refusal)
+writingRefusals bytes room = under (length room) (length bytes) gives Room ∷ []
+
 unfoldable pub writing : List ℕ → List ℕ → Written
-writing bytes room = firstOf (under (length room) (length bytes) gives refused Room room ∷ []) (laid bytes room)
+writing bytes room = judged (writingRefusals bytes room) (λ why. refused why room) (laid bytes room)

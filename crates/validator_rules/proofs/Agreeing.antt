@@ -1,8 +1,9 @@
 -- After any calls at all the session agrees with the history: its bills, its store, and the numbers 3, 4 and 5. Assumes nothing.
 use Prim.Native.Nat.{ℕ, _+_, _-_, _≤_, _<_}
 use mathlib.Core.Path.{_≡_, refl, sym, ap, ap₂, _∙_, subst}
-use mathlib.Core.Bool.{Bool, true, false, cond, true≢false}
+use mathlib.Core.Bool.{Bool, true, false, cond, _||_, true≢false}
 use mathlib.Core.List.{List, [], _∷_, _++_, append-nil}
+use native.Mathlib.Nat.{add-zero}
 use native.Mathlib.Omega.{arith}
 use lib.Dec.{eqb, lit≤}
 use lib.ListN.{length, getD, set, take, replicate, length-append, length-replicate, getD-replicate, List·getD-append}
@@ -13,7 +14,7 @@ use Rattle.numbers.specs.Promises.{AllBytes}
 use Rattle.refusals.specs.Put.{over}
 use Rattle.refusals.proofs.Rules.{holds-true, fails-false, by-cases, cond-true, cond-false, pick, either-way, Alike}
 use Rattle.refusals.proofs.Writing.{take-over}
-use Rattle.ccnet_frame.specs.Frame.{closed as with-check, frame, judgeFrame, bodyOf}
+use Rattle.ccnet_frame.specs.Frame.{frame, judgeFrame, bodyOf}
 use Rattle.ccnet_frame.specs.Class.{classOf, classBytes, isNamed}
 use Rattle.ccnet_frame.specs.declared.frame.Judged.{Judged}
 use Rattle.ccnet_frame.specs.declared.frame.Judged.the-variants.{Good as Passed, Refused as Failed}
@@ -23,13 +24,14 @@ use Rattle.ccnet_frame.proofs.Frames.{frame-length, frame-judged, good-long, go
 use Rattle.ccnet_frame.proofs.Classes.{classes}
 use Rattle.ledger.specs.Events.{Deed, asks, hears, waits, goes-on, closes, declined, done, isFrame, since}
 use Rattle.ledger.specs.Line.{isOpen, quietTime, ofNewest, accepted}
+use Rattle.ledger.specs.Waiting.{some, waited}
 use Rattle.ledger.specs.Calls.{told, seen, run, historyFrom}
 use Rattle.ledger.proofs.Declining.{given-alike}
-use Rattle.validator_rules.specs.Limits.{quiet, frameWait, storeSize, commandLimit, types}
+use Rattle.validator_rules.specs.Limits.{quiet, startWait, frameWait, storeSize, commandLimit, types}
 use Rattle.validator_rules.specs.Line.{hearing, isOpen as openIn, opened, closed, remembers, inside, waits as still, startByte, addressByte, lengthByte, furtherByte, answerByte, heardIn, heard, expiredIn, expired, passed}
 use Rattle.validator_rules.specs.Bills.{bills, bookedBy, poll, remembered}
-use Rattle.validator_rules.specs.Session.{LentAfter, StepAfter, stepAfter, refusedStep, lentAfter, afterStep, zeros, damagedStep, answeredStep, classStep, foundIn, found, judgedStep, judgeStep, acted, byteActed, byteRefusals, tickRefusals, requestRefusals, byteStep, tickStep, requestStep, freshSession, sessionRequest, sessionByte, sessionTick}
-use Rattle.validator_rules.specs.History.{lastCode, fromStart, between, answerTo, reported, counted, gathered as so-far, Carries, Other, Says, Truly, KeptByHistory, historyRefusals, DeclinesByHistory}
+use Rattle.validator_rules.specs.Session.{ack, nak, LentAfter, StepAfter, stepAfter, refusedStep, lentAfter, afterStep, zeros, damagedStep, answeredStep, classStep, foundIn, found, judgedStep, judgeStep, acted, byteActed, byteRefusals, tickRefusals, requestRefusals, byteStep, tickStep, requestStep, freshSession, sessionRequest, sessionByte, sessionTick}
+use Rattle.validator_rules.specs.History.{lastCode, fromStart, between, answerTo, reported, counted, gathered as so-far, Carries, Other, Says, Unfinished, starts, GoesOnBy, Truly, KeptByHistory, historyRefusals, DeclinesByHistory}
 use Rattle.validator_rules.specs.Calls.{Call, request, byte, tick, Request, Own, Ending, acknowledged, not-acknowledged, illegal-command, answered, damaged, silent, Known, Past, ending, returned, host, history}
 use Rattle.validator_rules.specs.declared.bills.Bills.{Bills}
 use Rattle.validator_rules.specs.declared.line.Phase.{Phase}
@@ -40,7 +42,7 @@ use Rattle.validator_rules.specs.declared.line.Heard.the-variants.{Skip,
 use Rattle.validator_rules.specs.declared.line.Turn.{Turn}
 use Rattle.validator_rules.specs.declared.line.Hearing.{Hearing}
 use Rattle.validator_rules.specs.declared.session.Session.{Session}
-use Rattle.validator_rules.proofs.Past.{start-next, start-more, store-more, bytes-more, nothing-counted, counted-most}
+use Rattle.validator_rules.proofs.Past.{second, third, start-next, start-more, store-more, bytes-more, nothing-counted, counted-most}
 use Rattle.validator_rules.proofs.Exact.{exactly-when}
 use Rattle.validator_rules.proofs.Booking.{Base, Fewer, answered-base, same-base}
 
@@ -59,6 +61,7 @@ record Awaiting (l : Line) (store : List ℕ) (h : Past) : Type 0 where
   none : fromStart (since h) ≡ []
   clean : store ≡ zeros
   nothing : l .gathered ≡ 0
+  time : l .left ≡ startWait - waited starts h
   bound : Fewer h
 
 -- inside an answer: the store holds what has come since 02h, and then zeros
@@ -69,10 +72,12 @@ record Gathering (l : Line) (store : List ℕ) (h : Past) : Type 0 where
   least : 1 ≤ l .gathered
   less : l .gathered < l .length
   most : l .length ≤ storeSize
+  six : 6 ≤ l .length
   untold : l .gathered ≤ 2 → l .length ≡ storeSize
   named : 2 ≤ l .gathered → getD (fromStart (since h)) 1 0 ≡ 0x03
   sized : 3 ≤ l .gathered → getD (fromStart (since h)) 2 0 ≡ l .length
   bytes : AllBytes (fromStart (since h))
+  time : l .left ≡ frameWait - waited starts h
   bound : Fewer h
 
 abbrev Stands : Phase → Line → List ℕ → Past → Type 0
@@ -129,43 +134,24 @@ module _ (l : Line) (bs : List Bills) (h : Past) (base : Base l bs h) (fewer : F
         truly = truly;
       }
 
--- the address stands behind 02h, and then the length
-second : (a : ℕ) (body : List ℕ) → getD (frame a body) 1 0 ≡ a
-unfolding frame with-check
-second a body = refl
-
-third : (a : ℕ) (body : List ℕ) → getD (frame a body) 2 0 ≡ 5 + length body
-unfolding frame with-check
-third a body = refl
-
--- ---- bytes that begin no good frame from address 03h
+-- ---- bytes that are no good frame from address 03h, and will be none
 
 module _ (f : List ℕ) where
-  -- the byte at a place is that of any frame which they begin
-  begun : (body rest : List ℕ) → f ++ rest ≡ frame 0x03 body → (i : ℕ) → i < length f → getD f i 0 ≡ getD (frame 0x03 body) i 0
-  begun body rest is i h = sym (List·getD-append f rest 0 i h) ∙ ap (λ (x : List ℕ). getD x i 0) is
-
   wrong-address : 2 ≤ length f → (getD f 1 0 ≡ 0x03 → ⊥) → Says damaged f
-  wrong-address long n body rest is = n (begun body rest (is .0) 1 (omega arith) ∙ second 0x03 body)
+  wrong-address long n = (λ u. n (u .0 long), λ body is. n (ap (λ (x : List ℕ). getD x 1 0) (is .0) ∙ second 0x03 body))
 
   wrong-length : 3 ≤ length f → getD f 2 0 < 6 → Says damaged f
-  wrong-length long short body rest is =
-      omega (arith, begun body rest (is .0) 2 (omega arith), third 0x03 body, is .1 .0)
+  wrong-length long short = (
+    λ u. omega (arith, u .1 long .0),
+    λ body is. omega (arith, ap (λ (x : List ℕ). getD x 2 0) (is .0), third 0x03 body, is .1 .0),
+  )
 
   -- a whole one that is bad
   wrong-frame : 3 ≤ length f → getD f 2 0 ≡ length f → (judgeFrame f ≡ Passed 0x03 → ⊥) → Says damaged f
-  wrong-frame long sized bad body [] is =
-      bad (ap judgeFrame (sym (append-nil f) ∙ is .0) ∙ frame-judged 0x03 body (lit≤ tt, lit≤ tt) (is .1 .0))
-  wrong-frame long sized bad body (b ∷ rest) is =
-      omega (
-        arith,
-        sized,
-        begun body (b ∷ rest) (is .0) 2 (omega arith),
-        third 0x03 body,
-        frame-length 0x03 body,
-        ap length (is .0),
-        length-append f (b ∷ rest),
-      )
+  wrong-frame long sized bad = (
+    λ u. omega (arith, sized, u .1 long .1),
+    λ body is. bad (ap judgeFrame (is .0) ∙ frame-judged 0x03 body (lit≤ tt, lit≤ tt) (is .1 .0)),
+  )
 
 -- ---- bodies that get a reply
 
@@ -202,15 +188,15 @@ module _ (s : Session) (h : Past) (k : Agrees s h) where
   module _ (fewer : Fewer h) (live : isOpen h ≡ true) (r : List ℕ) where
     heard-damaged : (b : ℕ) → Says damaged (fromStart (since h ++ (b ∷ []))) → Next s h (hears b) (damagedStep (closed l) r)
     unfolding damagedStep bookedBy Truly
-    heard-damaged b says = closes-agrees l (s .bills) h (k .base) fewer _ (heard-ends h b _ damaged) refl ((live, says), k .truly)
+    heard-damaged b says = closes-agrees l (s .bills) h (k .base) fewer _ (heard-ends h b _ damaged) refl ((live, says), (take-over nak r, k .truly))
 
-    waited-damaged : (ms : ℕ) → (fromStart (since h) ≡ [] → ⊥) → Next s h (waits ms) (damagedStep (closed l) r)
+    waited-damaged : (ms : ℕ) → (fromStart (since h) ≡ [] → ⊥) → frameWait ≤ waited starts h + ms → Next s h (waits ms) (damagedStep (closed l) r)
     unfolding damagedStep bookedBy Truly
-    waited-damaged ms some = closes-agrees l (s .bills) h (k .base) fewer _ (waited-ends h ms _ damaged) refl ((live, some), k .truly)
+    waited-damaged ms some late = closes-agrees l (s .bills) h (k .base) fewer _ (waited-ends h ms _ damaged) refl ((live, (some, late)), (take-over nak r, k .truly))
 
-    waited-silent : (ms : ℕ) → fromStart (since h) ≡ [] → Next s h (waits ms) (acted CloseSilent (closed l) (s .store) r)
+    waited-silent : (ms : ℕ) → fromStart (since h) ≡ [] → startWait ≤ waited starts h + ms → Next s h (waits ms) (acted CloseSilent (closed l) (s .store) r)
     unfolding bookedBy Truly
-    waited-silent ms none = closes-agrees l (s .bills) h (k .base) fewer _ (waited-ends h ms _ silent) refl ((live, none), k .truly)
+    waited-silent ms none late = closes-agrees l (s .bills) h (k .base) fewer _ (waited-ends h ms _ silent) refl ((live, (none, late)), (refl, k .truly))
 
     -- an answer that ends with b: a frame, and its body is what stands between
     module _ (b : ℕ) (body : List ℕ) (is : body ≡ between (fromStart (since h ++ (b ∷ []))))
@@ -219,7 +205,7 @@ module _ (s : Session) (h : Past) (k : Agrees s h) where
       unfolding answeredStep Truly
       heard-answered gets =
           let e = told ending (hears b) (returned (answeredStep (closed l) (classOf body) r .step .reply)) (answeredStep (closed l) (classOf body) r .room) in
-          let ends = heard-ends h b _ answered in
+          let ends = heard-ends h b _ (answered (classOf body)) in
           let m = remembers (closed l) (remembered (l .code) (l .last) (classOf body)) in
           record {
             base =
@@ -230,10 +216,10 @@ module _ (s : Session) (h : Past) (k : Agrees s h) where
             truly = (
               (
                 live,
-                subst (λ (x : List ℕ). Carries (fromStart (since h ++ (b ∷ []))) x × Other x) is
-                    (good, (replied-no body gets Ack tt refl, (replied-no body gets Nak tt refl, replied-no body gets Illegal tt refl))),
+                subst (λ (x : List ℕ). Carries (fromStart (since h ++ (b ∷ []))) x × (Other x × (classOf body ≡ classOf x))) is
+                    (good, ((replied-no body gets Ack tt refl, (replied-no body gets Nak tt refl, replied-no body gets Illegal tt refl)), refl)),
               ),
-              k .truly,
+              (take-over ack r, k .truly),
             );
           }
 
@@ -245,11 +231,11 @@ module _ (s : Session) (h : Past) (k : Agrees s h) where
       heard-class : (c : Class) → c ≡ classOf body → Next s h (hears b) (classStep c (closed l) r)
       unfolding bookedBy Truly
       heard-class Ack e =
-          closes-agrees l (s .bills) h (k .base) fewer _ (heard-ends h b _ acknowledged) refl ((live, heard-says Ack e (λ u. let z : _≡_ {A = ℕ} 0 1 = cc in omega arith)), k .truly)
+          closes-agrees l (s .bills) h (k .base) fewer _ (heard-ends h b _ acknowledged) refl ((live, heard-says Ack e (λ u. let z : _≡_ {A = ℕ} 0 1 = cc in omega arith)), (refl, k .truly))
       heard-class Nak e =
-          closes-agrees l (s .bills) h (k .base) fewer _ (heard-ends h b _ not-acknowledged) refl ((live, heard-says Nak e (λ u. let z : _≡_ {A = ℕ} 0 1 = cc in omega arith)), k .truly)
+          closes-agrees l (s .bills) h (k .base) fewer _ (heard-ends h b _ not-acknowledged) refl ((live, heard-says Nak e (λ u. let z : _≡_ {A = ℕ} 0 1 = cc in omega arith)), (refl, k .truly))
       heard-class Illegal e =
-          closes-agrees l (s .bills) h (k .base) fewer _ (heard-ends h b _ illegal-command) refl ((live, heard-says Illegal e (λ u. let z : _≡_ {A = ℕ} 0 1 = cc in omega arith)), k .truly)
+          closes-agrees l (s .bills) h (k .base) fewer _ (heard-ends h b _ illegal-command) refl ((live, heard-says Illegal e (λ u. let z : _≡_ {A = ℕ} 0 1 = cc in omega arith)), (refl, k .truly))
       heard-class (State x) e = subst (λ (c : Class). Next s h (hears b) (answeredStep (closed l) c r)) (sym e) (heard-answered (ap replied (sym e)))
       heard-class (Busy x) e = subst (λ (c : Class). Next s h (hears b) (answeredStep (closed l) c r)) (sym e) (heard-answered (ap replied (sym e)))
       heard-class (Rejecting x) e = subst (λ (c : Class). Next s h (hears b) (answeredStep (closed l) c r)) (sym e) (heard-answered (ap replied (sym e)))
@@ -299,28 +285,40 @@ module _ (s : Session) (h : Past) (k : Agrees s h) where
     unfolding accepted
     came-fewer f = fewer-still came h refl refl f
 
-    came-truly : Truly (came ∷ h)
+    came-truly : (isOpen h ≡ true → Unfinished (fromStart (since h ++ (b ∷ [])))) → Truly (came ∷ h)
     unfolding Truly
-    came-truly = (tt, k .truly)
+    came-truly due = (due, (refl, k .truly))
+
+    -- the wait goes on, but for 02h
+    came-waited : (n : ℕ) → length (fromStart (since h ++ (b ∷ []))) ≡ n → waited starts (came ∷ h) ≡ cond (eqb n 1) 0 (waited starts h)
+    unfolding waited
+    came-waited n e = rw (e, add-zero)
 
     came-since : since (came ∷ h) ≡ since h ++ (b ∷ [])
     unfolding since isFrame
     came-since = refl
 
     -- with nothing open
-    came-resting : Resting l (s .store) h → Resting (still l quiet) (s .store) (came ∷ h)
+    came-resting : (left : ℕ) → left ≡ quiet → Resting l (s .store) h → Resting (still l left) (s .store) (came ∷ h)
     unfolding isOpen quietTime accepted
-    came-resting st =
-        record { shut = st .shut; clean = st .clean; missing = refl; bound = few-still came h refl refl (st .bound) }
+    came-resting left e st =
+        record { shut = st .shut; clean = st .clean; missing = e; bound = few-still came h refl refl (st .bound) }
+
+    came-none : Awaiting l (s .store) h → (b ≡ 0x02 → ⊥) → fromStart (since h ++ (b ∷ [])) ≡ []
+    came-none st n = start-next (since h) b (st .none) ∙ cond-false (b ∷ []) [] (fails-false (same b 0x02) n)
+
+    came-first : Awaiting l (s .store) h → b ≡ 0x02 → fromStart (since h ++ (b ∷ [])) ≡ b ∷ []
+    came-first st e = start-next (since h) b (st .none) ∙ cond-true (b ∷ []) [] (holds-true (same b 0x02) e)
 
     -- no 02h yet, and this is none
     came-skipped : Awaiting l (s .store) h → (b ≡ 0x02 → ⊥) → Awaiting (still l (l .left)) (s .store) (came ∷ h)
     came-skipped st n =
         record {
           live = came-open ∙ st .live;
-          none = ap fromStart came-since ∙ start-next (since h) b (st .none) ∙ cond-false (b ∷ []) [] (fails-false (same b 0x02) n);
+          none = ap fromStart came-since ∙ came-none st n;
           clean = st .clean;
           nothing = st .nothing;
+          time = st .time ∙ ap (λ (t : ℕ). startWait - t) (sym (came-waited 0 (ap length (came-none st n))));
           bound = came-fewer (st .bound);
         }
 
@@ -329,7 +327,7 @@ module _ (s : Session) (h : Past) (k : Agrees s h) where
         → Gathering (inside l frameWait 1 storeSize) (set (s .store) (l .gathered) b) (came ∷ h)
     came-started st e =
         let f : fromStart (since (came ∷ h)) ≡ b ∷ [] =
-        ap fromStart came-since ∙ start-next (since h) b (st .none) ∙ cond-true (b ∷ []) [] (holds-true (same b 0x02) e) in
+        ap fromStart came-since ∙ came-first st e in
         record {
           live = came-open ∙ st .live;
           size = ap length f;
@@ -340,10 +338,12 @@ module _ (s : Session) (h : Past) (k : Agrees s h) where
           least = lit≤ tt;
           less = lit≤ tt;
           most = lit≤ tt;
+          six = lit≤ tt;
           untold = λ u. refl;
           named = λ u. absurd (omega arith);
           sized = λ u. absurd (omega arith);
           bytes = subst AllBytes (sym f) (bytes-more [] b (λ i. lit≤ tt) small);
+          time = ap (λ (t : ℕ). frameWait - t) (sym (came-waited 1 (ap length (came-first st e))));
           bound = came-fewer (st .bound);
         }
 
@@ -373,9 +373,9 @@ module _ (s : Session) (h : Past) (k : Agrees s h) where
           (λ n. List·getD-append before (b ∷ []) 0 1 (omega (arith, n, st .size)) ∙ st .named (omega (arith, n)))
 
       -- one byte more of an answer
-      came-kept : (n want : ℕ) → n ≡ l .gathered + 1 → n < want → want ≤ storeSize → (n ≤ 2 → want ≡ storeSize) → (n ≡ 2 → b ≡ 0x03)
-          → (3 ≤ n → getD (before ++ (b ∷ [])) 2 0 ≡ want) → Gathering (inside l (l .left) n want) (set (s .store) (l .gathered) b) (came ∷ h)
-      came-kept n want e less most untold address sized =
+      came-kept : (left n want : ℕ) → left ≡ l .left → n ≡ l .gathered + 1 → n < want → want ≤ storeSize → (n ≤ 2 → want ≡ storeSize) → (n ≡ 2 → b ≡ 0x03)
+          → (3 ≤ n → getD (before ++ (b ∷ [])) 2 0 ≡ want) → 6 ≤ want → Gathering (inside l left n want) (set (s .store) (l .gathered) b) (came ∷ h)
+      came-kept left n want rest e less most untold address sized six =
           let f : fromStart (since (came ∷ h)) ≡ before ++ (b ∷ []) = ap fromStart came-since ∙ came-from in
           let m : storeSize - l .gathered - 1 ≡ storeSize - n = omega arith in
           record {
@@ -385,10 +385,12 @@ module _ (s : Session) (h : Past) (k : Agrees s h) where
             least = omega arith;
             less = less;
             most = most;
+            six = six;
             untold = untold;
             named = λ u. ap (λ (x : List ℕ). getD x 1 0) f ∙ came-named (λ g. address (omega arith)) (omega arith);
             sized = λ u. ap (λ (x : List ℕ). getD x 2 0) f ∙ sized u;
             bytes = subst AllBytes (sym f) came-bytes;
+            time = rest ∙ st .time ∙ ap (λ (t : ℕ). frameWait - t) (sym (came-waited n (ap length came-from ∙ came-size ∙ sym e) ∙ cond-false 0 (waited starts h) (fails-false (same n 1) (λ z. omega (arith, z, e, st .least)))));
             bound = came-fewer (st .bound);
           }
 
@@ -406,43 +408,51 @@ module _ (s : Session) (h : Past) (k : Agrees s h) where
       abbrev After : Hearing → Type 0
       After t = Next s h (hears b) (byteActed (t .heard) (t .line) (l .length) (s .store) (l .gathered) b r)
 
-      after-idle : l .phase ≡ Idle → Resting l (s .store) h → After (hearing (still l quiet) Skip)
+      after-idle : (left : ℕ) → left ≡ quiet → l .phase ≡ Idle → Resting l (s .store) h → After (hearing (still l left) Skip)
       unfolding bookedBy
-      after-idle p st =
+      after-idle left e p st =
           record {
-            base = came-base (still l quiet) refl refl refl;
-            stands = subst (λ (q : Phase). Stands q (still l quiet) (s .store) (came ∷ h)) (sym p) (came-resting st);
-            truly = came-truly;
+            base = came-base (still l left) refl refl refl;
+            stands = subst (λ (q : Phase). Stands q (still l left) (s .store) (came ∷ h)) (sym p) (came-resting left e st);
+            truly = came-truly (λ o. absurd (true≢false (sym o ∙ st .shut)));
           }
 
       after-start : l .phase ≡ Start → Awaiting l (s .store) h → After (startByte l b)
       unfolding startByte bookedBy
       after-start p st =
           pick After (same b 0x02) _ _
-          (λ e. record { base = came-base (inside l frameWait 1 storeSize) refl refl refl; stands = came-started st e; truly = came-truly })
+          (λ e. record { base = came-base (inside l frameWait 1 storeSize) refl refl refl; stands = came-started st e; truly = came-truly (λ o. short 1 (ap length (came-first st e)) (lit≤ tt)) })
           (λ n.
           record {
             base = came-base (still l (l .left)) refl refl refl;
             stands = subst (λ (q : Phase). Stands q (still l (l .left)) (s .store) (came ∷ h)) (sym p) (came-skipped st n);
-            truly = came-truly;
+            truly = came-truly (λ o. short 0 (ap length (came-none st n)) (lit≤ tt));
           })
+        where
+          short : (n : ℕ) → length (fromStart (since h ++ (b ∷ []))) ≡ n → n ≤ 1 → Unfinished (fromStart (since h ++ (b ∷ [])))
+          short n e m = (λ u. absurd (omega (arith, u, e, m)), λ u. absurd (omega (arith, u, e, m)))
 
       module _ (st : Gathering l (s .store) h) where
-        kept : (n want : ℕ) → n ≡ l .gathered + 1 → n < want → want ≤ storeSize → (n ≤ 2 → want ≡ storeSize) → (n ≡ 2 → b ≡ 0x03)
-            → (3 ≤ n → getD (before st ++ (b ∷ [])) 2 0 ≡ want) → Next s h (hears b) (byteActed Keep (inside l (l .left) n want) (l .length) (s .store) (l .gathered) b r)
+        kept : (left n want : ℕ) → left ≡ l .left → n ≡ l .gathered + 1 → n < want → want ≤ storeSize → (n ≤ 2 → want ≡ storeSize) → (n ≡ 2 → b ≡ 0x03)
+            → (3 ≤ n → getD (before st ++ (b ∷ [])) 2 0 ≡ want) → 6 ≤ want → Next s h (hears b) (byteActed Keep (inside l left n want) (l .length) (s .store) (l .gathered) b r)
         unfolding bookedBy
-        kept n want e less most untold address sized =
+        kept left n want rest e less most untold address sized six =
             record {
-              base = came-base (inside l (l .left) n want) refl refl refl;
-              stands = came-kept st n want e less most untold address sized;
-              truly = came-truly;
+              base = came-base (inside l left n want) refl refl refl;
+              stands = came-kept st left n want rest e less most untold address sized six;
+              truly = came-truly (λ o. subst Unfinished (sym (came-from st)) (
+                λ u. came-named st (λ g. address (omega (arith, e, g))) (st .least),
+                λ u.
+                    let v = sized (omega (arith, u, e, came-size st)) in
+                    (omega (arith, v, six), omega (arith, v, e, less, came-size st)),
+              ));
             }
 
         after-address : l .gathered ≡ 1 → After (addressByte l b)
         unfolding addressByte
         after-address g =
             pick After (same b _) _ _
-            (λ e. kept 2 (l .length) (omega arith) (omega (arith, st .untold (omega arith))) (st .most) (λ u. st .untold (omega arith)) (λ u. omega (arith, e)) (λ u. absurd (omega arith)))
+            (λ e. kept _ _ _ (omega arith) (omega arith) (omega (arith, st .untold (omega arith))) (st .most) (λ u. st .untold (omega arith)) (λ u. omega (arith, e)) (λ u. absurd (omega arith)) (st .six))
             (λ n.
             heard-damaged (st .bound) (st .live) r b
             (subst (Says damaged) (sym (came-from st))
@@ -456,7 +466,7 @@ module _ (s : Session) (h : Past) (k : Agrees s h) where
             heard-damaged (st .bound) (st .live) r b
             (subst (Says damaged) (sym (came-from st))
             (wrong-length (before st ++ (b ∷ [])) (omega (arith, came-size st)) (omega (arith, e, sizing)))))
-            (λ n. kept 3 b (omega arith) (omega (arith, least n)) (omega arith) (λ u. absurd (omega arith)) (λ u. absurd (omega arith)) (λ u. sizing))
+            (λ n. kept _ _ _ (omega arith) (omega arith) (omega (arith, least n)) (omega arith) (λ u. absurd (omega arith)) (λ u. absurd (omega arith)) (λ u. omega (arith, sizing)) (omega (arith, least n)))
           where
             sizing : getD (before st ++ (b ∷ [])) 2 0 ≡ b
             sizing = getD-at (before st) b [] 0 2 (st .size ∙ g)
@@ -468,7 +478,7 @@ module _ (s : Session) (h : Past) (k : Agrees s h) where
         unfolding furtherByte judgeStep
         after-further g f =
             pick After (under (l .gathered + 1) (l .length)) _ _
-            (λ e. kept (l .gathered + 1) (l .length) refl e (st .most) (λ u. absurd (omega (arith, st .least, g, f))) (λ u. absurd (omega (arith, g))) (λ u. sizing))
+            (λ e. kept _ _ _ (omega arith) (omega arith) e (st .most) (λ u. absurd (omega (arith, st .least, g, f))) (λ u. absurd (omega (arith, g))) (λ u. sizing) (st .six))
             (λ n.
             let whole = came-full st (omega (arith, st .less, n)) in
             let is = whole ∙ came-from st in
@@ -492,7 +502,7 @@ module _ (s : Session) (h : Past) (k : Agrees s h) where
       after-heard = by (l .phase) refl (k .stands)
         where
           by : (p : Phase) → l .phase ≡ p → Stands p l (s .store) h → After (heardIn p l b)
-          by Idle e st = after-idle e st
+          by Idle e st = after-idle _ (omega arith) e st
           by Start e st = after-start e st
           by Inside e st = after-inside st
 
@@ -510,9 +520,13 @@ module _ (s : Session) (h : Past) (k : Agrees s h) where
     unfolding since isFrame
     went-since = append-nil (since h)
 
-    went-truly : Truly (went ∷ h)
+    went-truly : (isOpen h ≡ true → GoesOnBy (waits ms) h) → Truly (went ∷ h)
     unfolding Truly
-    went-truly = (tt, k .truly)
+    went-truly due = (due, (refl, k .truly))
+
+    went-waited : waited starts (went ∷ h) ≡ waited starts h + ms
+    unfolding waited
+    went-waited = refl
 
     went-open : isOpen (went ∷ h) ≡ isOpen h
     unfolding isOpen
@@ -533,6 +547,7 @@ module _ (s : Session) (h : Past) (k : Agrees s h) where
           none = ap fromStart went-since ∙ st .none;
           clean = st .clean;
           nothing = st .nothing;
+          time = omega (arith, e, st .time, went-waited);
           bound = went-fewer (st .bound);
         }
     went-stands left e Inside st =
@@ -543,10 +558,12 @@ module _ (s : Session) (h : Past) (k : Agrees s h) where
           least = st .least;
           less = st .less;
           most = st .most;
+          six = st .six;
           untold = st .untold;
           named = λ u. ap (λ (x : List ℕ). getD (fromStart x) 1 0) went-since ∙ st .named u;
           sized = λ u. ap (λ (x : List ℕ). getD (fromStart x) 2 0) went-since ∙ st .sized u;
           bytes = subst (λ (x : List ℕ). AllBytes (fromStart x)) (sym went-since) (st .bytes);
+          time = omega (arith, e, st .time, went-waited);
           bound = went-fewer (st .bound);
         }
 
@@ -554,27 +571,33 @@ module _ (s : Session) (h : Past) (k : Agrees s h) where
       abbrev Passed-by : Turn → Type 0
       Passed-by t = Next s h (waits ms) (acted (t .todo) (t .line) (s .store) r)
 
-      goes : (left : ℕ) → left ≡ l .left - ms → Next s h (waits ms) (acted Nothing (still l left) (s .store) r)
+      goes : (left : ℕ) → left ≡ l .left - ms → (isOpen h ≡ true → GoesOnBy (waits ms) h) → Next s h (waits ms) (acted Nothing (still l left) (s .store) r)
       unfolding bookedBy
-      goes left e =
+      goes left e due =
           record {
             base = went-base (still l left) refl refl refl;
             stands = went-stands left e (l .phase) (k .stands);
-            truly = went-truly;
+            truly = went-truly due;
           }
+
+      -- the wait is not over
+      in-time : ms < l .left → (p : Phase) → Stands p l (s .store) h → isOpen h ≡ true → GoesOnBy (waits ms) h
+      in-time e Idle st o = absurd (true≢false (sym o ∙ st .shut))
+      in-time e Start st o = (λ z. omega (arith, e, st .time), λ z. absurd (z (st .none)))
+      in-time e Inside st o = (λ z. absurd (omega (arith, ap length z, st .size, st .least)), λ z. omega (arith, e, st .time))
 
       after-expired : l .left ≤ ms → Passed-by (expired l)
       unfolding expired
       after-expired e = by (l .phase) refl (k .stands)
         where
           by : (p : Phase) → l .phase ≡ p → Stands p l (s .store) h → Passed-by (expiredIn p l)
-          by Idle q st = goes 0 (omega arith)
-          by Start q st = waited-silent (st .bound) (st .live) r ms (st .none)
-          by Inside q st = waited-damaged (st .bound) (st .live) r ms (λ z. omega (arith, ap length z, st .size, st .least))
+          by Idle q st = goes 0 (omega arith) (λ o. absurd (true≢false (sym o ∙ st .shut)))
+          by Start q st = waited-silent (st .bound) (st .live) r ms (st .none) (omega (arith, e, st .time))
+          by Inside q st = waited-damaged (st .bound) (st .live) r ms (λ z. omega (arith, ap length z, st .size, st .least)) (omega (arith, e, st .time))
 
       after-passed : Passed-by (passed l ms)
       unfolding passed
-      after-passed = pick Passed-by (under ms (l .left)) _ _ (λ e. goes (l .left - ms) refl) (λ n. after-expired (omega (arith, n)))
+      after-passed = pick Passed-by (under ms (l .left)) _ _ (λ e. goes (l .left - ms) refl (in-time e (l .phase) (k .stands))) (λ n. after-expired (omega (arith, n)))
 
   -- ---- a request
 
@@ -590,6 +613,15 @@ module _ (s : Session) (h : Past) (k : Agrees s h) where
     wrote-since =
         rw (take-over sent-frame r) (rw (lt-ltb 1 (length sent-frame) (omega (arith, frame-length 0x03 (code ∷ given)))))
 
+    -- its wait begins with it
+    wrote-waited : waited starts (wrote ∷ h) ≡ 0
+    unfolding waited
+    wrote-waited = go (some (take (length sent-frame) (over sent-frame r)))
+      where
+        go : (t : Bool) → cond (t || true) 0 (waited starts h + 0) ≡ 0
+        go true = refl
+        go false = refl
+
     -- nothing was open
     resting : (p : Phase) → (openIn p ≡ true → ⊥) → Stands p l (s .store) h → Resting l (s .store) h
     resting Idle n st = st
@@ -598,7 +630,7 @@ module _ (s : Session) (h : Past) (k : Agrees s h) where
 
     wrote-agrees : Resting l (s .store) h → l .accepted < commandLimit
         → Agrees (record { line = opened l code (l .accepted + 1); bills = s .bills; store = s .store }) (wrote ∷ h)
-    unfolding isOpen accepted ofNewest reported counted classOf fromStart Truly
+    unfolding isOpen accepted ofNewest reported counted fromStart Truly waited
     wrote-agrees st f =
         record {
           base =
@@ -616,9 +648,10 @@ module _ (s : Session) (h : Past) (k : Agrees s h) where
                 none = ap fromStart wrote-since;
                 clean = st .clean;
                 nothing = refl;
+                time = sym (ap (λ (t : ℕ). startWait - t) wrote-waited);
                 bound = λ y small. omega (arith, st .bound y small);
               };
-          truly = (tt, k .truly);
+          truly = (λ o. tt, (take-over sent-frame r, k .truly));
         }
 
 -- ---- the calls
@@ -626,10 +659,10 @@ module _ (s : Session) (h : Past) (k : Agrees s h) where
 module _ (s : Session) (h : Past) (k : Agrees s h) where
   -- a call that was declined
   declined-stands : (p : Phase) → Stands p (s .line) (s .store) h → Stands p (s .line) (s .store) (declined ∷ h)
-  unfolding isOpen quietTime accepted since counted classOf
+  unfolding isOpen quietTime accepted since counted waited
   declined-stands Idle st = record { shut = st .shut; clean = st .clean; missing = st .missing; bound = st .bound }
   declined-stands Start st =
-      record { live = st .live; none = st .none; clean = st .clean; nothing = st .nothing; bound = st .bound }
+      record { live = st .live; none = st .none; clean = st .clean; nothing = st .nothing; time = st .time; bound = st .bound }
   declined-stands Inside st =
       record {
         live = st .live;
@@ -638,10 +671,12 @@ module _ (s : Session) (h : Past) (k : Agrees s h) where
         least = st .least;
         less = st .less;
         most = st .most;
+        six = st .six;
         untold = st .untold;
         named = st .named;
         sized = st .sized;
         bytes = st .bytes;
+        time = st .time;
         bound = st .bound;
       }
 

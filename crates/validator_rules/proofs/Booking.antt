@@ -1,6 +1,6 @@
 -- What an answer to a POLL leaves: the count of each type and what is remembered agree with the history. Assumes nothing.
 use Prim.Native.Nat.{ℕ, _+_, _≤_, _<_}
-use mathlib.Core.Path.{_≡_, refl, sym, ap, ap₂, _∙_}
+use mathlib.Core.Path.{_≡_, refl, sym, ap, _∙_}
 use mathlib.Core.Bool.{Bool, true, false, cond, not, _&&_}
 use mathlib.Core.List.{List, [], _∷_}
 use native.Mathlib.Omega.{arith}
@@ -10,7 +10,7 @@ use lib.Seq.{getD-set-same, getD-set-other}
 use borrow.Author.Tests.{lt-ltb, le-leb, eq-eqb, ne-eqb}
 use Rattle.refusals.specs.Rules.{same, under}
 use Rattle.refusals.proofs.Rules.{pick, by-cases, cond-true, cond-false}
-use Rattle.ccnet_frame.specs.Class.{classOf}
+use Rattle.ccnet_frame.specs.Class.{listed as in-list, classOf}
 use Rattle.ccnet_frame.specs.declared.class.Class.{Class}
 use Rattle.ledger.specs.Line.{accepted}
 use Rattle.validator_rules.specs.Limits.{commandLimit, types}
@@ -19,7 +19,7 @@ use Rattle.validator_rules.specs.Calls.{Known, Past}
 use Rattle.validator_rules.specs.History.{lastCode, answerTo, reported, counted}
 use Rattle.validator_rules.specs.declared.bills.Bills.{Bills}
 use Rattle.validator_rules.specs.declared.line.Line.{Line}
-use Rattle.validator_rules.proofs.Past.{nothing-reported, nothing-counted, counted-one, counted-none, stacked-is}
+use Rattle.validator_rules.proofs.Past.{listed-is, nothing-reported, nothing-counted, counted-one, counted-none, stacked-is}
 
 -- ---- one bill booked
 
@@ -87,7 +87,8 @@ module _ (l : Line) (bs : List Bills) (h : Past) (base : Base l bs h) (fewer : F
       by true t =
           let b : answerTo poll e h ≡ body = is ∙ cond-true body [] t in
           let m : remembered (l .code) (l .last) class ≡ cond (isPollAnswer class) (stackedType class) (l .last) = rw t in
-          let r : reported (e ∷ h) ≡ cond (isPollAnswer class) body (reported h) = rw b in
+          let q : reported (e ∷ h) ≡ cond (in-list body .test) body (reported h) = rw b in
+          let r : reported (e ∷ h) ≡ cond (isPollAnswer class) body (reported h) = q ∙ ap (λ (u : Bool). cond u body (reported h)) (listed-is body) in
           m ∙ listed (isPollAnswer class) ∙ ap (λ (s : List ℕ). stackedType (classOf s)) (sym r)
         where
           listed : (u : Bool) → cond u (stackedType class) (l .last) ≡ stackedType (classOf (cond u body (reported h)))

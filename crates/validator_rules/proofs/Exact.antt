@@ -4,7 +4,6 @@ use Prim.Native.Nat.{ℕ}
 use mathlib.Core.Path.{_≡_, refl, sym, ap, _∙_}
 use mathlib.Core.Bool.{true}
 use mathlib.Core.List.{List, _∷_}
-use native.Mathlib.Omega.{arith}
 use lib.ListN.{set, take}
 use Rattle.refusals.specs.Rules.{Rule, judged}
 use Rattle.refusals.proofs.Rules.{either-way}

@@ -4,4 +4,5 @@ pub mod Reading
 pub mod Exact
 pub mod Past
 pub mod Booking
+pub mod Single
 pub mod Agreeing

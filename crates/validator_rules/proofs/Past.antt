@@ -3,19 +3,21 @@ use Prim.Native.Nat.{ℕ, zero, suc, _+_, _-_, _≤_, _<_}
 use mathlib.Core.Path.{_≡_, refl, sym, ap, _∙_}
 use mathlib.Core.Bool.{Bool, true, false, cond}
 use mathlib.Core.List.{List, [], _∷_, _++_}
-use mathlib.Core.Logic.{_↔_}
+use mathlib.Core.Logic.{_↔_, inl, inr, ⊎-elim}
 use native.Mathlib.Omega.{arith}
 use native.Mathlib.Nat.{le-refl}
 use lib.Dec.{eqb, lit<}
-use lib.ListN.{length, set, replicate}
+use lib.ListN.{length, getD, set, replicate}
 use Rattle.numbers.specs.Promises.{AllBytes}
-use Rattle.refusals.proofs.Rules.{holds-true, fails-false, cond-true, cond-false}
-use Rattle.ccnet_frame.specs.Class.{classOf, classBytes}
+use Rattle.refusals.specs.Rules.{same, both}
+use Rattle.refusals.proofs.Rules.{holds-true, fails-false, cond-true, cond-false, pick}
+use Rattle.ccnet_frame.specs.Frame.{closed as with-check, frame}
+use Rattle.ccnet_frame.specs.Class.{isState, isRejection, isFailure, isType, oneByte, twoBytes, listed, classOf, classBytes}
 use Rattle.ccnet_frame.specs.declared.class.Class.{Class}
 use Rattle.ccnet_frame.specs.declared.class.Class.the-variants.{Ack, Nak, Illegal, State, Busy, Rejecting, Failing, Escrow, Stacked, Returned, Unknown}
 use Rattle.ccnet_frame.proofs.Classes.{classes}
 use Rattle.validator_rules.specs.Limits.{types}
-use Rattle.validator_rules.specs.Bills.{stackedType, poll}
+use Rattle.validator_rules.specs.Bills.{stackedType, isPollAnswer, poll}
 use Rattle.validator_rules.specs.Calls.{Known, Past}
 use Rattle.validator_rules.specs.History.{fromStart, answerTo, reported, adds, counted}
 
@@ -43,6 +45,17 @@ start-more (a ∷ s) t h = by (start-more s t) (eqb a 0x02) h
     by again true f = refl
     by again false f = again f
 
+-- ---- a frame
+
+-- the address stands behind 02h, and then the length
+pub second : (a : ℕ) (body : List ℕ) → getD (frame a body) 1 0 ≡ a
+unfolding frame with-check
+second a body = refl
+
+pub third : (a : ℕ) (body : List ℕ) → getD (frame a body) 2 0 ≡ 5 + length body
+unfolding frame with-check
+third a body = refl
+
 -- ---- bytes in the store, then zeros
 
 -- one byte more at its place
@@ -65,12 +78,37 @@ bytes-more (a ∷ g) b bytes small (suc i) = bytes-more g b (λ j. bytes (suc j)
 
 -- nothing completed: nothing reported, nothing counted
 pub nothing-reported : (e : Known) (h : Past) → answerTo poll e h ≡ [] → reported (e ∷ h) ≡ reported h
-unfolding reported classOf
+unfolding reported
 nothing-reported e h z = rw z
 
 pub nothing-counted : (y : ℕ) (e : Known) (h : Past) → answerTo poll e h ≡ [] → counted y (e ∷ h) ≡ counted y h
 unfolding counted
 nothing-counted y e h z = rw z
+
+none-of-three : (a : ℕ) → (a ≡ 0x80 → ⊥) → (a ≡ 0x81 → ⊥) → (a ≡ 0x82 → ⊥) → 0x80 ≤ a → a ≤ 0x82 → ⊥
+none-of-three a n m k least most = omega arith
+
+-- a body is listed by its bytes exactly where its class is a poll answer's
+pub listed-is : (s : List ℕ) → listed s .test ≡ isPollAnswer (classOf s)
+unfolding classOf oneByte twoBytes
+listed-is [] = refl
+listed-is (b ∷ []) =
+    let P : Class → Type 0 = λ c. isState b .test ≡ isPollAnswer c in
+    pick P (same b 0x00) _ _ (λ e. ap (λ (x : ℕ). isState x .test) e)
+    (λ n. pick P (same b 0xFF) _ _ (λ e. ap (λ (x : ℕ). isState x .test) e)
+    (λ n. pick P (same b 0x30) _ _ (λ e. ap (λ (x : ℕ). isState x .test) e)
+    (λ n. pick P (isState b) _ _ (λ h. holds-true (isState b) h) (λ n. fails-false (isState b) n))))
+listed-is (a ∷ b ∷ []) =
+    let l = listed (a ∷ b ∷ []) in
+    let P : Class → Type 0 = λ c. l .test ≡ isPollAnswer c in
+    pick P (same a 0x1B) _ _ (λ h. holds-true l (inl h))
+    (λ n1. pick P (both (same a 0x1C) (isRejection b)) _ _ (λ h. holds-true l (inr (inl h)))
+    (λ n2. pick P (both (same a 0x47) (isFailure b)) _ _ (λ h. holds-true l (inr (inr (inl h))))
+    (λ n3. pick P (both (same a 0x80) (isType b)) _ _ (λ h. holds-true l (inr (inr (inr ((omega (arith, h .0), omega (arith, h .0)), h .1)))))
+    (λ n4. pick P (both (same a 0x81) (isType b)) _ _ (λ h. holds-true l (inr (inr (inr ((omega (arith, h .0), omega (arith, h .0)), h .1)))))
+    (λ n5. pick P (both (same a 0x82) (isType b)) _ _ (λ h. holds-true l (inr (inr (inr ((omega (arith, h .0), omega (arith, h .0)), h .1)))))
+    (λ n6. fails-false l (⊎-elim n1 (⊎-elim n2 (⊎-elim n3 (λ h. none-of-three a (λ e. n4 (e, h .1)) (λ e. n5 (e, h .1)) (λ e. n6 (e, h .1)) (h .0 .0) (h .0 .1)))))))))))
+listed-is (a ∷ b ∷ c ∷ s) = refl
 
 -- one call adds one bill at most
 pub counted-most : (y : ℕ) (e : Known) (h : Past) → counted y (e ∷ h) ≤ counted y h + 1

@@ -2,6 +2,7 @@
 -- history, are those of every line (`ledger`).
 use Prim.Native.Nat.{ℕ, _<_}
 use mathlib.Core.List.{List, []}
+use Rattle.ccnet_frame.specs.declared.class.Class.{Class}
 use Rattle.ledger.specs.Events.{Deed, asks, hears, waits, Left, goes-on, closes, Event, History}
 use Rattle.ledger.specs.Calls.{Returned, gave, did, Host, historyFrom}
 use Rattle.validator_rules.specs.Session.{After, freshSession, sessionRequest, sessionByte, sessionTick}
@@ -36,7 +37,7 @@ pub data Ending : Type 0 where
   acknowledged : Ending
   not-acknowledged : Ending
   illegal-command : Ending
-  answered : Ending
+  answered : Class → Ending
   damaged : Ending
   silent : Ending
 
@@ -57,13 +58,13 @@ abbrev pub returned : Reply → Returned Closing
 returned (NotDone why) = gave why
 returned (Done n closing) = did n closing
 
--- the closing that was returned; of an answer no more than that it came
+-- the closing that was returned; of an answer with the class that it carries
 abbrev pub ending : Closing → Left Ending
 ending Nothing = goes-on
 ending Acknowledged = closes acknowledged
 ending NotAcknowledged = closes not-acknowledged
 ending IllegalCommand = closes illegal-command
-ending (Answered c) = closes answered
+ending (Answered c) = closes (answered c)
 ending Damaged = closes damaged
 ending Silent = closes silent
 

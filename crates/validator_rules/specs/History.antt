@@ -10,13 +10,14 @@ use lib.Dec.{eqb}
 use lib.ListN.{length, getD, take, drop, replicate}
 use Rattle.refusals.specs.Rules.{Tells, Condition, Rule, says, under, atMost, within, same, both, isnt, and-tells, _gives_}
 use Rattle.ccnet_frame.specs.Frame.{frame}
-use Rattle.ccnet_frame.specs.Class.{classOf}
+use Rattle.ccnet_frame.specs.Class.{listed, classOf}
 use Rattle.ledger.specs.Events.{Deed, asks, hears, waits, own, Left, goes-on, closes, declined, done, since}
 use Rattle.ledger.specs.Line.{isOpen, quietTime, ofNewest, accepted}
+use Rattle.ledger.specs.Waiting.{waited}
 use Rattle.ledger.specs.Calls.{run, Declines}
-use Rattle.validator_rules.specs.Limits.{quiet, leastRoom, commandLimit, storeSize, types}
-use Rattle.validator_rules.specs.Bills.{bills, isPollAnswer, poll}
-use Rattle.validator_rules.specs.Session.{isCommand, freshSession, sessionRequest}
+use Rattle.validator_rules.specs.Limits.{quiet, startWait, frameWait, leastRoom, commandLimit, storeSize, types}
+use Rattle.validator_rules.specs.Bills.{bills, poll}
+use Rattle.validator_rules.specs.Session.{isCommand, ack, nak, freshSession, sessionRequest}
 use Rattle.validator_rules.specs.Calls.{Call, Request, Own, Ending, acknowledged, not-acknowledged, illegal-command, answered, damaged, silent, Known, Past, host, history}
 use Rattle.refusals.specs.declared.Declined.{Declined}
 use Rattle.refusals.specs.declared.Declined.the-variants.{Room, Range, Open, Unquiet, Spent}
@@ -46,7 +47,7 @@ abbrev pub bodyBy : Ending → ℕ → Past → ℕ → List ℕ
 bodyBy acknowledged code h b = []
 bodyBy not-acknowledged code h b = []
 bodyBy illegal-command code h b = []
-bodyBy answered code h b = cond (eqb (lastCode h) code) (between (fromStart (since h ++ (b ∷ [])))) []
+bodyBy (answered c) code h b = cond (eqb (lastCode h) code) (between (fromStart (since h ++ (b ∷ [])))) []
 bodyBy damaged code h b = []
 bodyBy silent code h b = []
 
@@ -65,7 +66,7 @@ answerTo code (done (own o) put left) h = []
 -- "the last listed poll answer received to a POLL"; none before the first
 unfoldable pub reported : Past → List ℕ
 reported [] = []
-reported (e ∷ h) = cond (isPollAnswer (classOf (answerTo poll e h))) (answerTo poll e h) (reported h)
+reported (e ∷ h) = cond (listed (answerTo poll e h) .test) (answerTo poll e h) (reported h)
 
 -- two lists of bytes are the same
 abbrev pub sameTest : List ℕ → List ℕ → Bool
@@ -109,55 +110,99 @@ Carries f body = (f ≡ frame 0x03 body) × within 1 250 (length body) .holds
 abbrev pub Other : List ℕ → Type 0
 Other body = (body ≡ 0x00 ∷ [] → ⊥) × ((body ≡ 0xFF ∷ [] → ⊥) × (body ≡ 0x30 ∷ [] → ⊥))
 
--- what the bytes from 02h on are where a byte closes the command: a good frame from address 03h, and the closing is what its body says; or, where
--- it is damaged ("a wrong address (not 03h) or length byte, at that byte, a wrong check"), neither a good frame from address 03h nor the beginning
--- of one. No byte closes as silent
+-- bytes from 02h on that close nothing yet: an address, if it has come, of 03h; a length byte, if it has come, of at least 6 and of more than have come
+abbrev pub Unfinished : List ℕ → Type 0
+Unfinished f = (2 ≤ length f → getD f 1 0 ≡ 0x03) × (3 ≤ length f → (6 ≤ getD f 2 0) × (length f < getD f 2 0))
+
+-- what the bytes from 02h on are where a byte closes the command: a good frame from address 03h, and the closing is what its body says; or, where it is damaged ("a wrong
+-- address (not 03h) or length byte, at that byte, a wrong check"), neither that nor unfinished. No byte closes as silent
 abbrev pub Says : Ending → List ℕ → Type 0
 Says acknowledged f = Carries f (0x00 ∷ [])
 Says not-acknowledged f = Carries f (0xFF ∷ [])
 Says illegal-command f = Carries f (0x30 ∷ [])
-Says answered f = Carries f (between f) × Other (between f)
-Says damaged f = (body rest : List ℕ) → Carries (f ++ rest) body → ⊥
+Says (answered c) f = Carries f (between f) × (Other (between f) × (c ≡ classOf (between f)))
+Says damaged f = (Unfinished f → ⊥) × ((body : List ℕ) → Carries f body → ⊥)
 Says silent f = ⊥
 
--- and where a tick closes it: "a late frame sends a NAK frame and closes as damaged; nothing started, closes as silent". How late is not said here
-abbrev pub Lapses : Ending → List ℕ → Type 0
-Lapses acknowledged f = ⊥
-Lapses not-acknowledged f = ⊥
-Lapses illegal-command f = ⊥
-Lapses answered f = ⊥
-Lapses damaged f = f ≡ [] → ⊥
-Lapses silent f = f ≡ []
+-- "The answer's 02h must come within 10 ms, the whole within 400 ms of it": the wait begins anew with a request, and with the first byte of an answer
+abbrev pub starts : Past → Deed Request Own → Bool
+starts h (asks q) = true
+starts h (hears b) = eqb (length (fromStart (since h ++ (b ∷ [])))) 1
+starts h (waits ms) = false
+starts h (own o) = false
 
--- by what was called after h; a request closes nothing
-abbrev pub SaysBy : Deed Request Own → Ending → Past → Type 0
-SaysBy (asks q) k h = ⊥
-SaysBy (hears b) k h = Says k (fromStart (since h ++ (b ∷ [])))
-SaysBy (waits ms) k h = Lapses k (fromStart (since h))
-SaysBy (own o) k h = ⊥
+-- what the bytes from 02h on are where a tick that brings the wait to t closes the command: "a late frame sends a NAK frame and closes as damaged; nothing started,
+-- closes as silent"
+abbrev pub Lapses : Ending → List ℕ → ℕ → Type 0
+Lapses acknowledged f t = ⊥
+Lapses not-acknowledged f t = ⊥
+Lapses illegal-command f t = ⊥
+Lapses (answered c) f t = ⊥
+Lapses damaged f t = (f ≡ [] → ⊥) × (frameWait ≤ t)
+Lapses silent f t = (f ≡ []) × (startWait ≤ t)
 
--- what a closing says; only an open command is closed
-abbrev pub SaysOnce : Left Ending → Deed Request Own → Past → Type 0
-SaysOnce goes-on d h = Unit {0}
-SaysOnce (closes k) d h = (isOpen h ≡ true) × SaysBy d k h
+-- and where it closes nothing
+abbrev pub InTime : List ℕ → ℕ → Type 0
+InTime f t = (f ≡ [] → t < startWait) × ((f ≡ [] → ⊥) → t < frameWait)
 
--- every closing that a call returned is what the bytes said, or that they did not come
+-- an open command is closed by what was called after h; a request closes nothing
+abbrev pub ClosesBy : Deed Request Own → Ending → Past → Type 0
+ClosesBy (asks q) k h = ⊥
+ClosesBy (hears b) k h = Says k (fromStart (since h ++ (b ∷ [])))
+ClosesBy (waits ms) k h = Lapses k (fromStart (since h)) (waited starts h + ms)
+ClosesBy (own o) k h = ⊥
+
+-- it stays open
+abbrev pub GoesOnBy : Deed Request Own → Past → Type 0
+GoesOnBy (asks q) h = Unit {0}
+GoesOnBy (hears b) h = Unfinished (fromStart (since h ++ (b ∷ [])))
+GoesOnBy (waits ms) h = InTime (fromStart (since h)) (waited starts h + ms)
+GoesOnBy (own o) h = Unit {0}
+
+-- what a closing says, or that there was none; only an open command is closed
+abbrev pub Due : Left Ending → Deed Request Own → Past → Type 0
+Due goes-on d h = isOpen h ≡ true → GoesOnBy d h
+Due (closes k) d h = (isOpen h ≡ true) × ClosesBy d k h
+
+-- "ACK, NAK and 'illegal' close without a reply; any other body gets an ACK frame"; damaged "sends a NAK frame"; else nothing is sent
+abbrev pub reply : Left Ending → List ℕ
+reply goes-on = []
+reply (closes acknowledged) = []
+reply (closes not-acknowledged) = []
+reply (closes illegal-command) = []
+reply (closes (answered c)) = ack
+reply (closes damaged) = nak
+reply (closes silent) = []
+
+-- the bytes that a call puts: a request its frame, any other its reply
+abbrev pub puts : Deed Request Own → Left Ending → List ℕ
+puts (asks q) left = frame 0x03 (q .code ∷ q .given)
+puts (hears b) left = reply left
+puts (waits ms) left = reply left
+puts (own o) left = reply left
+
+-- every closing that a call returned is what the bytes said, or that they did not come in time; where it returned none, none was due; and what it put is its frame or
+-- its reply
 unfoldable pub Truly : Past → Type 0
 Truly [] = Unit {0}
 Truly (declined ∷ h) = Truly h
-Truly (done d put left ∷ h) = SaysOnce left d h × Truly h
+Truly (done d put left ∷ h) = Due left d h × ((put ≡ puts d left) × Truly h)
 
 -- ---- what is promised, from a fresh session and after any calls at all
 
 -- the count of each type is what the history gives, so that none is ever cut; it is at most the number of commands that may be accepted; the
--- gathering store holds the bytes gathered from 02h on, and then zeros: "all zero when fresh and again after each closing"; and every closing
--- is what the bytes said
+-- gathering store holds the bytes gathered from 02h on, and then zeros: "all zero when fresh and again after each closing"; and every call
+-- closes what is due and puts what is due
 pub record KeptByHistory : Type 0 where
   pub bills : (cs : List Call) (y : ℕ) → y < types → getD (run host freshSession cs .bills) y (bills 0) .0 ≡ counted y (history cs)
   pub few : (cs : List Call) (y : ℕ) → y < types → counted y (history cs) ≤ commandLimit
   pub store : (cs : List Call)
       → run host freshSession cs .store ≡ gathered (history cs) ++ replicate (storeSize - length (gathered (history cs))) 0
   pub closings : (cs : List Call) → Truly (history cs)
+
+-- and that is no choice: after a history one closing at most is due by a call, or none
+abbrev pub OneDue : Type 0
+OneDue = (h : Past) (d : Deed Request Own) (x y : Left Ending) → Due x d h → Due y d h → x ≡ y
 
 -- "Requests can meet 1 to 5", told from the history
 abbrev pub historyRefusals : Past → ℕ → List ℕ → List ℕ → List (Rule Declined)

@@ -1,4 +1,5 @@
--- The tests of a frame: those that `judge` makes, and then those of the fields, are all that 01 lists. Assumes nothing.
+-- The tests of a frame: they give 01's numbers in its order, and those that `judge` makes, and then those of the fields, are all of them.
+-- Assumes nothing.
 use Prim.Native.Nat.{ℕ, _+_, _≤_}
 use mathlib.Core.Path.{_≡_, refl, sym, _∙_}
 use mathlib.Core.Bool.{Bool, true, false, cond, not}
@@ -12,10 +13,15 @@ use Rattle.refusals.proofs.Rules.{exactly, certain}
 use Rattle.xor_frame.specs.Layout.{Field, sizes}
 use Rattle.xor_frame.specs.Frame.{codeOf, lengthWith, faults}
 use Rattle.xor_frame.specs.Parts.{outerFaults, fieldFaults}
+use Rattle.xor_frame.specs.Promises.{InOrder}
 use Rattle.xor_frame.specs.declared.frame.Fault.{Fault}
 use Rattle.xor_frame.specs.declared.frame.Verdict.{Verdict}
 use Rattle.xor_frame.specs.declared.frame.Verdict.the-variants.{Good, Bad}
 use Rattle.xor_frame.proofs.Lengths.{length-known, length-some}
+
+pub in-order : InOrder
+unfolding faults
+in-order first id known fields s = refl
 
 -- a code without a length is one that is not in the table
 unknown : (known : ℕ → Condition) (fields : ℕ → List Field) (code : ℕ) → eqb (lengthWith known fields code) 0 ≡ not (known code .test)

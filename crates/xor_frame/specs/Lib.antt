@@ -2,3 +2,4 @@
 pub mod Layout
 pub mod Frame
 pub mod Parts
+pub mod Promises

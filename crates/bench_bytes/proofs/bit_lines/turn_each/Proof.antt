@@ -1,10 +1,10 @@
--- `bench_sheet::ccnet_lines::turn_each` meets its contract: the loop ends at the frame's end. Assumes nothing.
+-- `bench_bytes::bit_lines::turn_each` meets its contract: the loop ends at the frame's end. Assumes nothing.
 use Prim.Native.Nat.{_≤_, _-_}
 use mathlib.Core.Path.{_≡_}
 use lib.ListN.{length}
 use borrow.Author.Needs.{needs}
-use Rattle.bench_sheet.proofs.ccnet_lines.turn_each.Statement.{statement}
-use Rattle.bench_sheet.proofs.ccnet_lines.turn_each.Tie as tie
+use Rattle.bench_bytes.proofs.bit_lines.turn_each.Statement.{statement}
+use Rattle.bench_bytes.proofs.bit_lines.turn_each.Tie as tie
 
 abbrev Inv-loop : tie.InvT-loop
 Inv-loop end store₀ refused₀ i₀ store refused i = (i ≤ end) × (length store ≡ length store₀)

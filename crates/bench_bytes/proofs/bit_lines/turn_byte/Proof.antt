@@ -1,10 +1,10 @@
--- `bench_sheet::ccnet_lines::turn_byte` meets its contract: each turned bit adds one at most. Assumes nothing.
+-- `bench_bytes::bit_lines::turn_byte` meets its contract: each turned bit adds one at most. Assumes nothing.
 use Prim.Native.Nat.{_≤_, _-_}
 use mathlib.Core.Path.{_≡_}
 use lib.ListN.{length}
 use borrow.Author.Needs.{needs}
-use Rattle.bench_sheet.proofs.ccnet_lines.turn_byte.Statement.{statement}
-use Rattle.bench_sheet.proofs.ccnet_lines.turn_byte.Tie as tie
+use Rattle.bench_bytes.proofs.bit_lines.turn_byte.Statement.{statement}
+use Rattle.bench_bytes.proofs.bit_lines.turn_byte.Tie as tie
 
 abbrev Inv-loop : tie.InvT-loop
 Inv-loop i end store₀ refused₀ k₀ bit₀ store refused k bit = (refused ≤ k) × (k ≤ 8) × (length store ≡ length store₀)
