@@ -5,7 +5,7 @@ pub mod Folds
 pub mod Numbers
 pub mod Trips
 pub mod Back
-pub mod Exact
 pub mod Glances
 pub mod Starts
+pub mod Exact
 pub mod Tied

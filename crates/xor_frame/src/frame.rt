@@ -48,7 +48,7 @@ impl Fault {
             Fault::Code => refusals::CODE,
             Fault::Closing => refusals::CLOSING,
             Fault::Check => refusals::CHECK,
-            Fault::Field => 16,
+            Fault::Field => refusals::FIELD,
         }
     }
 }
