@@ -2,8 +2,8 @@
 ghost use Prim.Native.Nat.{_≤_};
 use ccnet_frame::Class;
 use ccnet_frame::Judged;
-use dispenser_frame::AnswerRead;
-use dispenser_frame::CommandRead;
+use dispenser_frame_rules::AnswerRead;
+use dispenser_frame_rules::CommandRead;
 use refusals::Put;
 
 const READ: u8 = 32;

@@ -8,7 +8,7 @@
 //     session account:
 //
 // A call that sends, closes or is refused says so in a line of its own.
-use dispenser_frame::Answer;
+use dispenser_frame_rules::Answer;
 use dispenser_rules::Closing;
 use dispenser_rules::Reply;
 use dispenser_rules::Session;

@@ -5,9 +5,9 @@ use Rattle.numbers.specs.Seven.{groups, groupsIn}
 use Rattle.ccnet_frame.specs.Check as ccnet-check
 use Rattle.ccnet_frame.specs.Frame as ccnet
 use Rattle.xor_frame.specs.Layout.{allBytes}
-use Rattle.dispenser_frame.specs.Table.{table, lineIn}
+use Rattle.dispenser_frame_rules.specs.Table.{table, lineIn}
 use Rattle.xor_frame.specs.Frame as dispenser
-use Rattle.dispenser_frame.specs.Command.{commandFrame}
+use Rattle.dispenser_frame_rules.specs.Command.{commandFrame}
 use Rattle.bench_sheet.specs.Sheet.{Starred}
 
 pub starred : Starred

@@ -3,7 +3,7 @@
 use mathlib.Core.Path.{_≡_}
 use mathlib.Core.List.{[], _∷_}
 use Rattle.ccnet_frame.specs.Frame.{frame}
-use Rattle.dispenser_frame.specs.Command.{commandFrame}
+use Rattle.dispenser_frame_rules.specs.Command.{commandFrame}
 use Rattle.numbers.specs.Seven.{groups}
 
 -- each starred line

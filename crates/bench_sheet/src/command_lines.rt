@@ -2,7 +2,7 @@
 //
 //     write command, room 24: 45h upper 10 lower 0
 //     read command, five bytes: 04 50 02 44 03
-use dispenser_frame::CommandRead;
+use dispenser_frame_rules::CommandRead;
 use refusals::Put;
 
 // A command's code and counts.

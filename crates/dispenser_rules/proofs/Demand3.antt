@@ -10,9 +10,9 @@ use Rattle.ledger.specs.Account.{Ending}
 use Rattle.ledger.specs.Calls.{run}
 use Rattle.ledger.proofs.Declining.{rising, given-alike}
 use Rattle.xor_frame.specs.Frame.{lengthWith}
-use Rattle.dispenser_frame.specs.Table.{table, codeIn}
-use Rattle.dispenser_frame.specs.declared.answer.Cassette.{Cassette}
-use Rattle.dispenser_frame.specs.declared.answer.Cassette.the-variants.{Upper, Lower}
+use Rattle.dispenser_frame_rules.specs.Table.{table, codeIn}
+use Rattle.dispenser_frame_rules.specs.declared.answer.Cassette.{Cassette}
+use Rattle.dispenser_frame_rules.specs.declared.answer.Cassette.the-variants.{Upper, Lower}
 use Rattle.exchange_rules.specs.Limits.{commandLimit}
 use Rattle.exchange_rules.specs.Sums.{freshSums}
 use Rattle.exchange_rules.specs.Machine.{request as asks, requestRefusals as refusals, historyRefusals}

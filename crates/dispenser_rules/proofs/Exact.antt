@@ -5,9 +5,9 @@ use mathlib.Core.List.{List}
 use mathlib.Core.Bool.{Bool, true, false, cond}
 use lib.Dec.{eqb}
 use lib.ListN.{set, take}
-use Rattle.dispenser_frame.specs.Answer.{answerCode, readAnswer}
-use Rattle.dispenser_frame.specs.declared.answer.AnswerRead.{AnswerRead}
-use Rattle.dispenser_frame.specs.declared.answer.AnswerRead.the-variants.{Read, Refused as NotRead}
+use Rattle.dispenser_frame_rules.specs.Answer.{answerCode, readAnswer}
+use Rattle.dispenser_frame_rules.specs.declared.answer.AnswerRead.{AnswerRead}
+use Rattle.dispenser_frame_rules.specs.declared.answer.AnswerRead.the-variants.{Read, Refused as NotRead}
 use Rattle.ledger.specs.Calls.{IsDone}
 use Rattle.ledger.proofs.Declining.{told-apart, rising, given-exactly}
 use Rattle.exchange_rules.specs.Exchange.{badFrame, heard, passed}

@@ -8,10 +8,10 @@ use lib.ListN.{set, take}
 use Rattle.refusals.specs.Rules.{Rule, judged, same}
 use Rattle.refusals.proofs.Rules.{either-way}
 use Rattle.ledger.specs.Calls.{After as AfterCall, gave, did}
-use Rattle.dispenser_frame.specs.Table.{answerLength}
-use Rattle.dispenser_frame.specs.Answer.{answerCode, readAnswer}
-use Rattle.dispenser_frame.specs.declared.answer.AnswerRead.{AnswerRead}
-use Rattle.dispenser_frame.specs.declared.answer.AnswerRead.the-variants.{Read, Refused as NotRead}
+use Rattle.dispenser_frame_rules.specs.Table.{answerLength}
+use Rattle.dispenser_frame_rules.specs.Answer.{answerCode, readAnswer}
+use Rattle.dispenser_frame_rules.specs.declared.answer.AnswerRead.{AnswerRead}
+use Rattle.dispenser_frame_rules.specs.declared.answer.AnswerRead.the-variants.{Read, Refused as NotRead}
 use Rattle.exchange_rules.specs.Limits.{quiet}
 use Rattle.exchange_rules.specs.Exchange.{heard, badFrame, passed, closed}
 use Rattle.ledger.specs.Told.{good, bad, by-refusal, by-doubt, ending as plain-ending}

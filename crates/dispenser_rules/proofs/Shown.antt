@@ -11,19 +11,19 @@ use Rattle.refusals.specs.Rules.{same}
 use Rattle.refusals.specs.Put.{over, laid, refused as not-put}
 use Rattle.refusals.proofs.Rules.{pick, first-judged, none-judged, first-or-none, holds-true}
 use Rattle.xor_frame.specs.Layout.{allInRange, allValues}
-use Rattle.dispenser_frame.specs.Table.{table, lineIn, line, known, asks, commandFields, answerFields, answerLength, row, none, purged}
+use Rattle.dispenser_frame_rules.specs.Table.{table, lineIn, line, known, asks, commandFields, answerFields, answerLength, row, none, purged}
 use Rattle.xor_frame.specs.Frame.{codeOf}
-use Rattle.dispenser_frame.specs.Command.{countsFit, sendable, commandFrame, commandRefusals, writeCommand}
-use Rattle.dispenser_frame.specs.Answer.{answerCode, answerFits, answerIn, answerFaults, readAs, readAnswer}
-use Rattle.dispenser_frame.specs.declared.answer.Cassette.{Cassette}
-use Rattle.dispenser_frame.specs.declared.answer.Cassette.the-variants.{Upper, Lower}
-use Rattle.dispenser_frame.specs.declared.answer.Answer.{Answer}
-use Rattle.dispenser_frame.specs.declared.answer.Answer.the-variants.{Purged, PaidOne, PaidBoth, Tested, Status}
-use Rattle.dispenser_frame.specs.declared.answer.AnswerRead.{AnswerRead}
-use Rattle.dispenser_frame.specs.declared.answer.AnswerRead.the-variants.{Read, Refused}
+use Rattle.dispenser_frame_rules.specs.Command.{countsFit, sendable, commandFrame, commandRefusals, writeCommand}
+use Rattle.dispenser_frame_rules.specs.Answer.{answerCode, answerFits, answerIn, answerFaults, readAs, readAnswer}
+use Rattle.dispenser_frame_rules.specs.declared.answer.Cassette.{Cassette}
+use Rattle.dispenser_frame_rules.specs.declared.answer.Cassette.the-variants.{Upper, Lower}
+use Rattle.dispenser_frame_rules.specs.declared.answer.Answer.{Answer}
+use Rattle.dispenser_frame_rules.specs.declared.answer.Answer.the-variants.{Purged, PaidOne, PaidBoth, Tested, Status}
+use Rattle.dispenser_frame_rules.specs.declared.answer.AnswerRead.{AnswerRead}
+use Rattle.dispenser_frame_rules.specs.declared.answer.AnswerRead.the-variants.{Read, Refused}
 use Rattle.xor_frame.proofs.Lengths.{length-known}
-use Rattle.dispenser_frame.proofs.Codes.{by-code, command-most, answer-most}
-use Rattle.dispenser_frame.proofs.Trips.{command-length}
+use Rattle.dispenser_frame_rules.proofs.Codes.{by-code, command-most, answer-most}
+use Rattle.dispenser_frame_rules.proofs.Trips.{command-length}
 use Rattle.exchange_rules.specs.Sums.{sumsOpened, sumsAnswered, sumsRefused, sumsUnknown}
 use Rattle.ledger.specs.Told.{Verdict, good}
 use Rattle.exchange_rules.specs.Owed.{Lawful}

@@ -8,10 +8,10 @@ use native.Mathlib.Omega.{arith}
 use lib.ListN.{length, take, set}
 use Rattle.refusals.specs.Rules.{Rule, under, same, NoneOf}
 use Rattle.refusals.proofs.Rules.{by-cases, cond-true, cond-false, holds-true, fails-false, none-judged, first-or-none}
-use Rattle.dispenser_frame.specs.Answer.{answerCode, readAnswer}
-use Rattle.dispenser_frame.specs.declared.answer.Answer.{Answer}
-use Rattle.dispenser_frame.specs.declared.answer.AnswerRead.{AnswerRead}
-use Rattle.dispenser_frame.specs.declared.answer.AnswerRead.the-variants.{Read}
+use Rattle.dispenser_frame_rules.specs.Answer.{answerCode, readAnswer}
+use Rattle.dispenser_frame_rules.specs.declared.answer.Answer.{Answer}
+use Rattle.dispenser_frame_rules.specs.declared.answer.AnswerRead.{AnswerRead}
+use Rattle.dispenser_frame_rules.specs.declared.answer.AnswerRead.the-variants.{Read}
 use Rattle.exchange_rules.specs.Limits.{quiet, answerWait, frameWait}
 use Rattle.exchange_rules.specs.Exchange.{isOpen, turn, hearing, opened, closed, starting, inside, waits, firstByte, startByte, insideByte, heardIn, heard, expiredIn, expired, passed}
 use Rattle.dispenser_rules.specs.Account.{accountOpened, accountAnswered}

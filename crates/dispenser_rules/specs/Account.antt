@@ -1,10 +1,10 @@
 -- The account of a cassette, and of the two (01, "The account").
 use Prim.Native.Nat.{ℕ}
 use Rattle.exchange_rules.specs.Sums.{freshSums, sumsOpened, sumsAnswered, sumsRefused, sumsUnknown, sumsRejected}
-use Rattle.dispenser_frame.specs.declared.answer.Cassette.{Cassette}
-use Rattle.dispenser_frame.specs.declared.answer.Cassette.the-variants.{Upper, Lower}
-use Rattle.dispenser_frame.specs.declared.answer.Answer.{Answer}
-use Rattle.dispenser_frame.specs.declared.answer.Answer.the-variants.{Purged, PaidOne, PaidBoth, Tested, Status}
+use Rattle.dispenser_frame_rules.specs.declared.answer.Cassette.{Cassette}
+use Rattle.dispenser_frame_rules.specs.declared.answer.Cassette.the-variants.{Upper, Lower}
+use Rattle.dispenser_frame_rules.specs.declared.answer.Answer.{Answer}
+use Rattle.dispenser_frame_rules.specs.declared.answer.Answer.the-variants.{Purged, PaidOne, PaidBoth, Tested, Status}
 use Rattle.exchange_rules.specs.declared.notes.Sums.{Sums}
 use Rattle.dispenser_rules.specs.declared.account.Account.{Account}
 use Rattle.dispenser_rules.specs.declared.session.Asked.{Asked}

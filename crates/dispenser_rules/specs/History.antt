@@ -8,7 +8,7 @@ use Rattle.ledger.specs.Told.{Told, Carried}
 use Rattle.exchange_rules.specs.Limits.{handOvers, commandLimit}
 use Rattle.exchange_rules.specs.Machine.{discipline, plain, historyRefusals}
 use Rattle.exchange_rules.specs.Kept.{Within, Sound}
-use Rattle.dispenser_frame.specs.declared.answer.Cassette.{Cassette}
+use Rattle.dispenser_frame_rules.specs.declared.answer.Cassette.{Cassette}
 use Rattle.dispenser_rules.specs.Session.{freshSession}
 use Rattle.dispenser_rules.specs.Calls.{Call, called, host, history}
 use Rattle.dispenser_rules.specs.Unit.{model2000T, layout, cassette, unit, box, means, lent, plain-closing}

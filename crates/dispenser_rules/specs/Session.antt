@@ -7,11 +7,11 @@ use lib.ListN.{length, take, set, replicate}
 use Rattle.refusals.specs.Rules.{Condition, Rule, says, under, atMost, within, isnt, judged, _gives_}
 use Rattle.refusals.specs.declared.Put.{Put}
 use Rattle.refusals.specs.declared.Put.the-variants.{Bytes, Refused as NotPut}
-use Rattle.dispenser_frame.specs.Table.{answerLength}
-use Rattle.dispenser_frame.specs.Command.{sendable, writeCommand}
-use Rattle.dispenser_frame.specs.Answer.{answerCode, readAnswer}
-use Rattle.dispenser_frame.specs.declared.answer.AnswerRead.{AnswerRead}
-use Rattle.dispenser_frame.specs.declared.answer.AnswerRead.the-variants.{Read, Refused as NotRead}
+use Rattle.dispenser_frame_rules.specs.Table.{answerLength}
+use Rattle.dispenser_frame_rules.specs.Command.{sendable, writeCommand}
+use Rattle.dispenser_frame_rules.specs.Answer.{answerCode, readAnswer}
+use Rattle.dispenser_frame_rules.specs.declared.answer.AnswerRead.{AnswerRead}
+use Rattle.dispenser_frame_rules.specs.declared.answer.AnswerRead.the-variants.{Read, Refused as NotRead}
 use Rattle.exchange_rules.specs.Limits.{quiet, leastRoom, commandLimit, longestTick}
 use Rattle.exchange_rules.specs.Exchange.{freshLine, opened, closed, isOpen, heard, badFrame, passed}
 use Rattle.dispenser_rules.specs.Account.{freshAccount, accountOpened, accountAnswered, accountRefused, accountUnknown}

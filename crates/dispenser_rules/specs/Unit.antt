@@ -9,14 +9,14 @@ use Rattle.ledger.specs.Account.{Dispenser}
 use Rattle.ledger.specs.Told.{Verdict, bad, good, Closing as PlainClosing, none, by-answer, by-refusal, by-doubt}
 use Rattle.exchange_rules.specs.Machine.{Model, Box, Call as PlainCall, request as asks, byte as hears, tick as waits}
 use Rattle.exchange_rules.specs.declared.notes.Sums.{Sums}
-use Rattle.dispenser_frame.specs.Table.{answerLength}
-use Rattle.dispenser_frame.specs.Command.{sendable, commandFrame}
-use Rattle.dispenser_frame.specs.Answer.{answerCode, readAnswer}
-use Rattle.dispenser_frame.specs.declared.answer.Cassette.{Cassette}
-use Rattle.dispenser_frame.specs.declared.answer.Cassette.the-variants.{Upper, Lower}
-use Rattle.dispenser_frame.specs.declared.answer.Answer.{Answer}
-use Rattle.dispenser_frame.specs.declared.answer.AnswerRead.{AnswerRead}
-use Rattle.dispenser_frame.specs.declared.answer.AnswerRead.the-variants.{Read, Refused as NotRead}
+use Rattle.dispenser_frame_rules.specs.Table.{answerLength}
+use Rattle.dispenser_frame_rules.specs.Command.{sendable, commandFrame}
+use Rattle.dispenser_frame_rules.specs.Answer.{answerCode, readAnswer}
+use Rattle.dispenser_frame_rules.specs.declared.answer.Cassette.{Cassette}
+use Rattle.dispenser_frame_rules.specs.declared.answer.Cassette.the-variants.{Upper, Lower}
+use Rattle.dispenser_frame_rules.specs.declared.answer.Answer.{Answer}
+use Rattle.dispenser_frame_rules.specs.declared.answer.AnswerRead.{AnswerRead}
+use Rattle.dispenser_frame_rules.specs.declared.answer.AnswerRead.the-variants.{Read, Refused as NotRead}
 use Rattle.dispenser_rules.specs.Account.{accountOpened, accountAnswered, accountRefused, accountUnknown}
 use Rattle.dispenser_rules.specs.Session.{handOver, command}
 use Rattle.dispenser_rules.specs.Calls.{Call, request, byte, tick, Request}

@@ -2,7 +2,7 @@
 ghost use mathlib.Core.Path.{_≡_};
 ghost use Rattle.dispenser_rules.specs.Session.{freshSession};
 use crate::account::Account;
-use dispenser_frame::Answer;
+use dispenser_frame_rules::Answer;
 use exchange_rules::Line;
 use refusals::Declined;
 

@@ -23,9 +23,9 @@ use Rattle.recording.specs.declared.taking.NextRecord.{NextRecord}
 use Rattle.recording.specs.declared.taking.NextRecord.the-variants.{Whole, Bad}
 use Rattle.recording.proofs.Folds.{reading-end, reading-short, reading-long}
 use Rattle.recording.proofs.Starts.{whole-read, whole-says, bad-says}
-use Rattle.grading.specs.Replay.{Desk, freshDesk, payerDeclines, takerDeclines, given, run, told, badFindings, replayed, replayOf}
+use Rattle.grading_rules.specs.Replay.{Desk, freshDesk, payerDeclines, takerDeclines, given, run, told, badFindings, replayed, replayOf}
 use Rattle.grading.specs.Scaffolding.{joined}
-use Rattle.grading.specs.declared.desk.Findings.{Findings}
+use Rattle.grading_rules.specs.declared.findings.Findings.{Findings}
 use Rattle.grading.specs.declared.desk.Run.{Run}
 
 replayed-also : (d : Desk) (x : Record) (g : Reading) → replayed d (also x g) ≡ replayed (given d x) g

@@ -3,7 +3,7 @@ use mathlib.Core.Path.{_≡_, ap, ap₂}
 use Rattle.dispenser_rules.specs.Session.{After, StepAfter as Done, bookedBy}
 use Rattle.dispenser_rules.specs.declared.session.Session.{Session}
 use Rattle.validator_rules.specs.Session.{LentAfter, StepAfter, afterStep}
-use Rattle.grading.specs.Replay.{Desk, byValidator, byBoth}
+use Rattle.grading_rules.specs.Replay.{Desk, byValidator, byBoth}
 
 -- a byte, whose step is w by its contract
 pub by-byte : (d : Desk) {w v : LentAfter} → w ≡ v → byValidator d (afterStep (d .validator) w) ≡ byValidator d (afterStep (d .validator) v)

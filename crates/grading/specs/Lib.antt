@@ -1,4 +1,2 @@
--- What the contracts of `grading` cite.
-pub mod Replay
+-- What the inner functions of `grading` cite.
 pub mod Scaffolding
-pub mod Promises

@@ -8,7 +8,7 @@ use Rattle.exchange_rules.specs.declared.line.Line.{Line}
 use Rattle.dispenser_rules.specs.declared.session.Asked.{Asked}
 use Rattle.validator_rules.specs.declared.bills.Bills.{Bills}
 use Rattle.validator_rules.specs.declared.line.Line.{Line as TakerLine}
-use Rattle.grading.specs.Replay.{Desk}
+use Rattle.grading_rules.specs.Replay.{Desk}
 use Rattle.grading.specs.declared.desk.Run.{Run}
 use Rattle.grading.specs.declared.desk.Entry.{Entry}
 use Rattle.grading.specs.declared.desk.Entry.the-variants.{Nothing, Asked as Opened, Heard as Closed}

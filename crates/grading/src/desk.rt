@@ -8,31 +8,18 @@ ghost use Rattle.dispenser_rules.specs.declared.account.Account.{Account};
 ghost use Rattle.validator_rules.specs.Bills.{bookedBy};
 ghost use Rattle.validator_rules.specs.declared.bills.Bills.{Bills};
 ghost use Rattle.recording.specs.declared.Record.the-variants.{Request, DispenserByte, Tick, ValidatorByte, Command};
-ghost use Rattle.grading.specs.Replay.{payerDeclines, takerDeclines, given, badFindings, replayOf};
+ghost use Rattle.grading_rules.specs.Replay.{payerDeclines, takerDeclines, given, badFindings, replayOf};
 ghost use Rattle.grading.specs.Scaffolding.{runOf, entered, joined};
 use dispenser_rules::Account;
 use dispenser_rules::Asked;
+use grading_rules::Ending;
+use grading_rules::Findings;
 use recording::Fault;
 use recording::NextRecord;
 use recording::Reader;
 use recording::Record;
 use recording::record_at;
 use validator_rules::Bills;
-
-// How a replay ends: the recording is good, or bad by a fault that shows in the record at an offset.
-pub enum Ending {
-    Good,
-    Bad(Fault, u32),
-}
-
-// What a replay leaves for the report.
-pub struct Findings {
-    pub account: Account,
-    pub bills: [Bills; 24],
-    pub declined: u32,
-    pub records: u32,
-    pub ending: Ending,
-}
 
 // What changes with each record, but for stores, rooms and what is booked: the payer's line (the dispenser's) and its command, the taker's line (the validator's), and
 // the counts.
@@ -293,20 +280,18 @@ fn booked(account: Account, asked: Asked, entry: Entry) -> Account
     }
 }
 
-impl Findings {
-    // A bad recording leaves its fault, and nothing else.
-    fn bad(why: Fault, at: u32) -> Findings
-        ensures { λ r. ⌜ r ≡ badFindings why at ⌝ }
-    {
-        let fresh = dispenser_rules::Session::fresh();
-        let account = fresh.account;
-        Findings {
-            account,
-            bills: [Bills(0); 24],
-            declined: 0,
-            records: 0,
-            ending: Ending::Bad(why, at),
-        }
+// A bad recording leaves its fault, and nothing else.
+fn bad(why: Fault, at: u32) -> Findings
+    ensures { λ r. ⌜ r ≡ badFindings why at ⌝ }
+{
+    let fresh = dispenser_rules::Session::fresh();
+    let account = fresh.account;
+    Findings {
+        account,
+        bills: [Bills(0); 24],
+        declined: 0,
+        records: 0,
+        ending: Ending::Bad(why, at),
     }
 }
 
@@ -315,7 +300,7 @@ pub fn replay(recording: &[u8]) -> Findings
     ensures { λ r. ⌜ r ≡ replayOf (now (recording .entry)) ⌝ }
 {
     if Reader::MOST < recording.len() {
-        return Findings::bad(Fault::Long, 0);
+        return bad(Fault::Long, 0);
     }
     let dispenser = dispenser_rules::Session::fresh();
     let validator = validator_rules::Session::fresh();
@@ -341,7 +326,7 @@ pub fn replay(recording: &[u8]) -> Findings
         match found {
             NextRecord::Bad(why) => {
                 let at = i as u32;
-                return Findings::bad(why, at);
+                return bad(why, at);
             }
             NextRecord::Whole(x, size) => {
                 i += size;

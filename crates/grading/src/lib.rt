@@ -1,7 +1,5 @@
-// Replay of a recording through both sessions. Document 01, "Recording and report". It sees the line part's contracts and nothing
-// else of it.
+// Replay of a recording through both sessions, as one function. It is proved to be its rule in `grading_rules`, and sees the line part's contracts and nothing else of
+// it.
 mod desk;
 
-pub use desk::Ending;
-pub use desk::Findings;
 pub use desk::replay;

@@ -8,7 +8,7 @@ use Rattle.refusals.specs.Rules.{Condition, under, isnt, judged, _gives_}
 use Rattle.numbers.specs.Seven.{nextGroup}
 use Rattle.numbers.specs.declared.Group.{Group}
 use Rattle.numbers.specs.declared.Group.the-variants.{More as OneMore, Last, Wrong}
-use Rattle.dispenser_frame.specs.Table.{known}
+use Rattle.dispenser_frame_rules.specs.Table.{known}
 use Rattle.recording.specs.Record.{inList}
 use Rattle.recording.specs.Reading.{awaiting, more, whole, refusedAt, refused, kindByte, requestRead, byteRead, commandRead, numbered, groupRead, grouped, byteIn, readByte, ended, readerAfter}
 use Rattle.recording.specs.Promises.{Stays, FaultStays}

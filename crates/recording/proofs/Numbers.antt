@@ -15,7 +15,7 @@ use Rattle.numbers.specs.declared.Seven.{Seven}
 use Rattle.numbers.specs.declared.Seven.the-variants.{Value, Bad as NoNumber, Cut as NoEnd}
 use Rattle.refusals.proofs.Rules.{by-cases, holds-true, fails-false}
 use Rattle.numbers.proofs.Groups.{Weight, weight-most, Found, found, found-more, next-begun, read-cons, read-nil}
-use Rattle.dispenser_frame.specs.Table.{known}
+use Rattle.dispenser_frame_rules.specs.Table.{known}
 use Rattle.recording.specs.Record.{inList, kindOf, numbersOf, isKind, howMany, takes, AllBelow}
 use Rattle.recording.specs.Reading.{Reading, bad, grown, more, whole, numbered, requestRead, byteRead, commandRead, groupRead, grouped, went, closing, readingFrom}
 use Rattle.recording.specs.declared.Fault.the-variants.{BadNumber, Cut, Unknown}

@@ -12,7 +12,7 @@ use Rattle.refusals.specs.Rules.{Condition, under, isnt, judged, _gives_}
 use Rattle.numbers.specs.Seven.{numberEnd, nextGroup}
 use Rattle.numbers.specs.declared.Group.{Group}
 use Rattle.numbers.specs.declared.Group.the-variants.{More as OneMore, Last, Wrong}
-use Rattle.dispenser_frame.specs.Table.{known}
+use Rattle.dispenser_frame_rules.specs.Table.{known}
 use Rattle.recording.specs.Record.{inList}
 use Rattle.recording.specs.Reading.{Reading, bad, freshReader, awaiting, grown, nextNumber, more, whole, refusedAt, refused, kindByte, numbered, requestRead, byteRead, commandRead, groupRead, grouped, readByte, also, went, closing, readingFrom}
 use Rattle.recording.specs.Taking.{settled, foundFrom, foundAt}

@@ -6,7 +6,7 @@ use Rattle.refusals.specs.Rules.{isnt, under, judged, firstOf, _gives_}
 use Rattle.numbers.specs.Seven.{numberEnd, nextGroup}
 use Rattle.numbers.specs.declared.Group.{Group}
 use Rattle.numbers.specs.declared.Group.the-variants.{More as OneMore, Last, Wrong}
-use Rattle.dispenser_frame.specs.Table.{known}
+use Rattle.dispenser_frame_rules.specs.Table.{known}
 use Rattle.recording.specs.Record.{mostBytes, inList}
 use Rattle.recording.specs.declared.Fault.{Fault}
 use Rattle.recording.specs.declared.Fault.the-variants.{BadNumber, Cut, Unknown, Long}

@@ -5,7 +5,7 @@ mod taking;
 pub use taking::NextRecord;
 pub use taking::record_at;
 ghost use mathlib.Core.Path.{_≡_};
-ghost use Rattle.dispenser_frame.specs.Table.{known};
+ghost use Rattle.dispenser_frame_rules.specs.Table.{known};
 ghost use Rattle.recording.specs.Record.{faultNumber, inList};
 ghost use Rattle.recording.specs.Reading.{freshReader, awaiting, grown, nextNumber, more, whole, refusedAt, kindByte, numbered, requestRead, byteRead, commandRead, grouped, readByte, ended, verdict};
 use dispenser_frame::answer_length;

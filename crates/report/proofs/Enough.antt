@@ -17,7 +17,7 @@ use Rattle.exchange_rules.specs.declared.notes.Sums.{Sums}
 use Rattle.dispenser_rules.specs.declared.account.Account.{Account}
 use Rattle.dispenser_rules.specs.declared.session.Session.{Session}
 use Rattle.dispenser_rules.proofs.Demand3.{never-cut}
-use Rattle.dispenser_frame.specs.declared.answer.Cassette.the-variants.{Upper, Lower}
+use Rattle.dispenser_frame_rules.specs.declared.answer.Cassette.the-variants.{Upper, Lower}
 use Rattle.validator_rules.specs.Limits.{types}
 use Rattle.validator_rules.specs.Bills.{bills, bookedBy, plus}
 use Rattle.validator_rules.specs.Session.{freshSession as freshTaker, sessionRequest as takerRequest, sessionByte as takerByte, sessionTick as takerTick}
@@ -33,14 +33,14 @@ use Rattle.recording.proofs.Exact.{exactly-when}
 use Rattle.recording.proofs.Back.{length-record}
 use Rattle.recording.proofs.Folds.{reading-long}
 use Rattle.report.specs.Text.{bytesOf, longest}
-use Rattle.grading.specs.Replay.{Desk, freshDesk, given, run, replayOf}
+use Rattle.grading_rules.specs.Replay.{Desk, freshDesk, given, run, replayOf}
 use Rattle.report.specs.Report.{field, line, lines, paidPart, unpaidPart, sumsLine, typeLine, typeLines, goodLines, badLine, reportText, reportOf}
-use Rattle.grading.specs.Promises.{calls, takerCalls, refuses, refusals}
+use Rattle.grading_rules.specs.Promises.{calls, takerCalls, refuses, refusals}
 use Rattle.report.specs.Promises.{Enough}
-use Rattle.grading.specs.declared.desk.Findings.{Findings}
+use Rattle.grading_rules.specs.declared.findings.Findings.{Findings}
 use Rattle.report.proofs.Adding.{ten}
 use Rattle.report.proofs.Lines.{lines-none, lines-one, lines-more, lines-append, two, type-none, type-seen, types-nil, types-cons}
-use Rattle.grading.proofs.Recorded.{good-replay, session-ran, as-recorded}
+use Rattle.grading_rules.proofs.Recorded.{good-replay, session-ran, as-recorded}
 
 abbrev end32 : ℕ
 end32 = 4_294_967_296

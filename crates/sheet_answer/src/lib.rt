@@ -1,5 +1,5 @@
 // A dispenser's answer, printed with its fields in 01's order. The bench programs share it.
-use dispenser_frame::Answer;
+use dispenser_frame_rules::Answer;
 
 // An answer's code and the values of its fields.
 pub fn print_answer(answer: Answer) {

@@ -6,7 +6,7 @@ use lib.ListN.{length, drop}
 use Rattle.dispenser_rules.specs.Session.{freshSession}
 use Rattle.validator_rules.specs.Session.{freshSession as freshTaker}
 use Rattle.recording.specs.Reading.{freshReader, readingFrom}
-use Rattle.grading.specs.Replay.{freshDesk, replayed, replayOf}
+use Rattle.grading_rules.specs.Replay.{freshDesk, replayed, replayOf}
 use Rattle.grading.specs.Scaffolding.{joined}
 use Rattle.grading.proofs.Loops.{gives, further, breaks, ends, counts, joins, no-bill, long, short}
 use borrow.Author.Needs.{needs}

@@ -1,0 +1,15 @@
+-- `grading::desk::bad` meets its contract. Assumes nothing.
+use Rattle.dispenser_rules.specs.Session.{freshSession}
+use borrow.Author.Needs.{needs}
+use Rattle.grading.proofs.desk.bad.Statement.{statement}
+use Rattle.grading.proofs.desk.bad.Tie as tie
+
+fresh-requires : tie.Need-fresh-requires
+fresh-requires c κs = search needs
+
+returns : tie.Need-returns
+unfolding freshSession
+returns c = simp (c .before .fresh .ensures)
+
+pub bad-spec : {M : Type 1} → statement M
+bad-spec = tie.close (tie.spec fresh-requires returns)

@@ -1,0 +1,2 @@
+-- The theorem of `grading_rules`.
+pub mod Recorded

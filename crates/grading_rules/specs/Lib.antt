@@ -1,0 +1,3 @@
+-- What the contracts of `grading` cite.
+pub mod Replay
+pub mod Promises

@@ -1,0 +1,5 @@
+// Replay of a recording through both sessions, as rules: what it leaves for the report, and what is promised of it. Document 01, "Recording and report".
+mod findings;
+
+pub use findings::Ending;
+pub use findings::Findings;
