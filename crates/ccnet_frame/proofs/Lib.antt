@@ -1,5 +1,9 @@
 -- The laws of `ccnet_frame`.
 pub mod Checks
+pub mod Xor
+pub mod Turns
+pub mod Below
+pub mod WholeByte
 pub mod Laying
 pub mod Frames
 pub mod Planned

@@ -1,33 +1,15 @@
-// The check of CCNET, as 003's Pascal listing reckons it.
+// The check of CCNET, as 003's Pascal listing reckons it, a whole byte at a time.
 ghost use mathlib.Core.Path.{_≡_};
 ghost use lib.Bits.{bitXor};
-ghost use Rattle.ccnet_frame.specs.Check.{turn, turns, check};
+ghost use Rattle.ccnet_frame.specs.Check.{turns, check};
 
-// 003: the polynomial, its lowest bit first.
-const POLYNOMIAL: u16 = 0x8408;
-
-// One turn: the low bit falls out.
-fn turned(c: u16) -> u16
-    ensures { λ r. ⌜ r ≡ turn c ⌝ }
-{
-    if c % 2 == 1 {
-        (c >> 1) ^ POLYNOMIAL
-    } else {
-        c >> 1
-    }
-}
-
-// The check after one byte more: eight turns.
+// The check after one byte more: its eight turns at once. The high byte moves down; what the low byte leaves is reckoned with four shifts.
 pub(crate) fn with_byte(c: u16, b: u8) -> u16
     ensures { λ r. ⌜ r ≡ turns 8 (bitXor c b) ⌝ }
 {
-    let mut x = c ^ (b as u16);
-    let mut i: usize = 0;
-    while i < 8 {
-        x = turned(x);
-        i += 1;
-    }
-    x
+    let x = c ^ (b as u16);
+    let spread = (x ^ (x << 4)) % 256;
+    (x >> 8) ^ ((spread << 8) ^ (spread << 3) ^ (spread >> 4))
 }
 
 // The check of all the bytes.
