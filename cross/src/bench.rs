@@ -47,6 +47,8 @@ pub struct Simulation {
     validator: Saying,
     /// The listed answer that the validator last gave to a POLL.
     said: Vec<u8>,
+    /// How often more the dispenser will say 15h to what it is handed.
+    refusals: u32,
 }
 
 impl Simulation {
@@ -66,6 +68,7 @@ impl Simulation {
             dispenser: Saying::new(),
             validator: Saying::new(),
             said: vec![0x14],
+            refusals: 0,
         }
     }
 
@@ -242,12 +245,19 @@ impl Simulation {
     fn dispenser_is_handed(&mut self) {
         self.dispenser.clear();
         let soon = self.now + self.random.pick(&[0, 1, 3, 20, 100, 1_000]);
+        if self.refusals > 0 {
+            self.refusals -= 1;
+            return self.dispenser.push_back((soon, 0x15));
+        }
         if !self.errs() {
             self.dispenser.push_back((soon, 0x06));
             return self.dispenser_answers(soon);
         }
         match self.random.below(12) {
-            0..=4 => self.dispenser.push_back((soon, 0x15)),
+            0..=4 => {
+                self.refusals = self.random.below(Session::HAND_OVERS);
+                self.dispenser.push_back((soon, 0x15));
+            }
             5 => {
                 let byte = self.random.pick(&[0x00, 0x01, 0x04, 0x05, 0x07, 0x14, 0x86, 0x95, 0xFF]);
                 self.dispenser.push_back((soon, byte));

@@ -118,7 +118,7 @@ impl Session {
     pub const ANSWER: u32 = 90_000;
     pub const AFTER_NAK: u32 = 5_050;
     pub const FRAME: u32 = 200;
-    pub const HAND_OVERS: u32 = 3;
+    pub const HAND_OVERS: u32 = 4;
     pub const NAKS: u32 = 3;
     pub const COMMANDS: u32 = 1_000_000;
     pub const ROOM: usize = 16;
@@ -457,10 +457,11 @@ mod tests {
     }
 
     #[test]
-    fn refused_after_the_third_hand_over() {
+    fn sent_again_up_to_three_times_then_refused() {
         let mut host = opened(TEN);
-        assert_eq!(host.byte(NAK), handed_over(TEN));
-        assert_eq!(host.byte(NAK), handed_over(TEN));
+        for _ in 0..3 {
+            assert_eq!(host.byte(NAK), handed_over(TEN));
+        }
         assert_eq!(host.byte(NAK), (vec![], Some(Closing::Refused)));
         assert_eq!(host.session.account().upper.refused, 10);
         assert_eq!(host.session.quiet(), Some((0, 5_200)));
@@ -495,7 +496,7 @@ mod tests {
         assert_eq!(host.request(TEN), Err(Declined::Quiet));
         host.pass(1);
         assert!(host.request(TEN).is_ok());
-        for _ in 0..3 {
+        for _ in 0..4 {
             host.byte(NAK);
         }
         assert_eq!(host.session.quiet(), Some((0, 5_200)));

@@ -28,10 +28,11 @@ places! {
     ThirdBad = 100, "dispenser: unknown, third 15h, bad frame";
     ThirdLate = 100, "dispenser: unknown, third 15h, late frame";
     LeftOpen = 100, "dispenser: left open";
-    HandedOverAgain = 100, "dispenser: answered after a hand-over again";
+    HandedOverAgain = 100, "dispenser: answered after a hand-over again": "the second" "the third" "the fourth";
     AskedAgain = 100, "dispenser: answered after a 15h of ours";
-    FirstByteAgain = 100, "dispenser: the 5,050 ms after a second or third hand-over":
-        "06h at 5,049" "06h too late" "06h in time by the last hand-over alone" "silence after the second" "silence after the third";
+    FirstByteAgain = 100, "dispenser: the 5,050 ms after a hand-over again":
+        "06h at 5,049" "06h too late" "06h in time by the last hand-over alone" "silence after the second" "silence after the third"
+        "silence after the fourth";
     SkippedBefore01 = 100, "dispenser: ms between skipped bytes and 01h":
         "in time" "unknown, but not by the skipped byte, and more came";
     SlowAnswer = 100, "dispenser: ms between the bytes of an answer":

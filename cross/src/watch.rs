@@ -258,7 +258,7 @@ impl Watch {
         match phase {
             Phase::First if step.closing.is_some() && self.hand_overs > 1 => {
                 self.silent = true;
-                self.all.part(Place::FirstByteAgain, if self.hand_overs == 2 { 3 } else { 4 });
+                self.all.part(Place::FirstByteAgain, self.hand_overs as usize + 1);
             }
             Phase::Start if step.closing.is_some() && line.skipped => {
                 let limit = if self.naks == 0 { Session::ANSWER } else { Session::AFTER_NAK };
@@ -371,7 +371,7 @@ impl Watch {
         });
         let Closing::Answered(answer) = closing else { return };
         if self.hand_overs > 1 {
-            self.all.mark(Place::HandedOverAgain);
+            self.all.part(Place::HandedOverAgain, self.hand_overs as usize - 2);
         }
         if self.naks > 0 {
             self.all.mark(Place::AskedAgain);

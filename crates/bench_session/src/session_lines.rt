@@ -138,7 +138,7 @@ fn tick_in(session: Session, ms: u32, size: u32, lent: &mut [u8]) -> Session {
     next
 }
 
-// So many commands accepted, each refused three times.
+// So many commands accepted, each refused until it closes.
 fn commands(times: u32, session: Session) -> Session {
     sheet::print_form(b" #\n", &[times]);
     let mut now = session;
@@ -154,9 +154,18 @@ fn command(session: Session) -> Session {
     let mut lent = sheet::short_room();
     let quiet = quietly(session, &mut lent);
     let open = dispenser::request(quiet, 0x44, 0, 0, &mut lent).session;
-    let again = dispenser::byte(open, 0x15, &mut lent).session;
-    let third = dispenser::byte(again, 0x15, &mut lent).session;
-    dispenser::byte(third, 0x15, &mut lent).session
+    refused(open, &mut lent)
+}
+
+// 15h for each hand-over that a command may have.
+fn refused(session: Session, lent: &mut [u8]) -> Session {
+    let mut now = session;
+    let mut k: u64 = 0;
+    while k < Session::HAND_OVERS {
+        now = dispenser::byte(now, 0x15, lent).session;
+        k += 1;
+    }
+    now
 }
 
 // Quiet enough for the next command.

@@ -17,7 +17,7 @@ use Rattle.dispenser_rules.specs.Unit.{model2000T, layout, cassette, uni
 abbrev pub TwoCassettes : Type 0
 TwoCassettes = Demand3 model2000T layout handOvers (λ (cs : List Call) (c : Cassette). plain (cassette (run host freshSession cs .account) c)) history
 
--- what every session keeps: an open command can be sent, and was handed over once to three times with at most two 15h of ours; at most 1,000,000 commands
+-- what every session keeps: an open command can be sent, was handed over at least once and no more often than the limit, and our 15h stayed below theirs; at most 1,000,000 commands
 abbrev pub AlwaysSound : Type 0
 AlwaysSound = (cs : List Call) → Sound unit (box (run host freshSession cs))
 

@@ -60,8 +60,8 @@ waits l left = record { left = left; quiet = l .quiet; accepted = l .accepted; h
 abbrev pub closedUnknown : Line → Turn
 closedUnknown l = turn (closed l longQuiet) CloseUnknown
 
--- "First byte since a hand-over: 06h, wait for the answer; 15h, hand over the same frame again at once, or after the third hand-over close
--- as refused; any other byte, close as unknown at once."
+-- "First byte since a hand-over: 06h, wait for the answer; 15h, hand over the same frame again at once, or after the [fourth] hand-over
+-- close as refused; any other byte, close as unknown at once." (as 02, Q-2, amends it)
 unfoldable pub firstByte : Line → ℕ → Hearing
 firstByte l b =
     cond (eqb b 0x06) (hearing (starting l answerWait (l .naks)) (Do Nothing))

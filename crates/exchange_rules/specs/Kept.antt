@@ -10,7 +10,7 @@ use Rattle.exchange_rules.specs.declared.line.Phase.the-variants.{Idle, 
 use Rattle.exchange_rules.specs.declared.line.Line.{Line}
 
 module _ {R X A C : Type 0} (U : Model R X A C) where
-  -- an open command: it can be sent; it was handed over once to three times; at most two 15h of ours; and it is one of the commands accepted
+  -- an open command: it can be sent; it was handed over at least once and no more often than the limit; our 15h stayed below theirs; and it is one of the commands accepted
   pub record Live (l : Line) (q : R) : Type 0 where
     pub sent : U .sendable q .holds
     pub least : 1 ≤ l .handed

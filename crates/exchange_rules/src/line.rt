@@ -73,7 +73,7 @@ impl Line {
 
     pub const FRAME: u64 = 200;
 
-    pub const HAND_OVERS: u64 = 3;
+    pub const HAND_OVERS: u64 = 4;
 
     pub const NAKS: u64 = 3;
 

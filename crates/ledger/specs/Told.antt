@@ -98,8 +98,8 @@ module _ {R X C : Type 0} (D : Dispenser R C) (G : Discipline R X) where
   unfoldable pub dueNak : ℕ → Due X
   dueNak n = due (0x15 ∷ []) (cond (ltb (n + 1) (G .naks)) none by-doubt)
 
-  -- "First byte since a hand-over: 06h, wait for the answer; 15h, hand over the same frame again at once, or after the third hand-over close
-  -- as refused; any other byte, close as unknown at once."
+  -- "First byte since a hand-over: 06h, wait for the answer; 15h, hand over the same frame again at once, or after the [fourth] hand-over
+  -- close as refused; any other byte, close as unknown at once." (as 02, Q-2, amends it)
   unfoldable pub dueFirst : Command R → ℕ → Due X
   dueFirst k b =
       cond (eqb b 0x06) nothing
