@@ -4,6 +4,7 @@
 use crate::ccnet_frame::{self, Class};
 use crate::dispenser::{Closing, Session, NAK};
 use crate::dispenser_frame::{answer, check, status, Code, Command, Counted, Fault, OPENING};
+use crate::error_class::{BESIDE, LISTED};
 use crate::random::Random;
 use crate::recording::{self, Record};
 use crate::replay::{Bench, Played, Rooms};
@@ -402,13 +403,23 @@ impl Simulation {
     /// What the dispenser says of the command it was handed.
     fn answer(&mut self) -> Vec<u8> {
         let Command { code, upper, lower } = self.command;
-        let error = if self.random.once_in(3) { self.random.within(0x30, 0x7F) as u8 } else { 0x30 };
+        let error = self.error();
         if code == Code::Status {
             let bytes = [0x01, 0x03, 0x04, 0x06, 0x15, self.random.byte()];
             return status(error, [0x80 | self.random.pick(&bytes), self.random.pick(&bytes)]);
         }
         let (upper, lower) = (self.counted(upper), self.counted(lower));
         answer(code, upper, lower, error)
+    }
+
+    /// An error byte: as it depends on nothing and alters no sum, mostly any of those that are listed.
+    fn error(&mut self) -> u8 {
+        match self.random.below(20) {
+            0 => 0x30,
+            1 => self.random.within(0x30, 0x7F) as u8,
+            2..=4 => self.random.pick(&BESIDE),
+            _ => self.random.pick(&LISTED),
+        }
     }
 
     /// A well-made answer to another command, or one with a field out of its range.

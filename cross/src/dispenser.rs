@@ -2,6 +2,7 @@
 
 use crate::account::Account;
 use crate::dispenser_frame::{self, Answer, Code, Command, ANSWER};
+use crate::error_class::ErrorClass;
 
 pub const ACK: u8 = 0x06;
 pub const NAK: u8 = 0x15;
@@ -50,7 +51,7 @@ pub fn is_tick(ms: u32) -> bool {
 /// How a command was closed.
 #[derive(Clone, Copy, Debug, PartialEq, Eq)]
 pub enum Closing {
-    Answered(Answer),
+    Answered(Answer, ErrorClass),
     Refused,
     Unknown(Unknown),
 }
@@ -259,9 +260,9 @@ impl Session {
             return self.bad(Unknown::ThirdBad, room);
         }
         match dispenser_frame::read_answer(frame) {
-            Ok(answer) => {
+            Ok((answer, error)) => {
                 self.account.answered(answer);
-                self.close(reply(ACK, room), Closing::Answered(answer))
+                self.close(reply(ACK, room), Closing::Answered(answer, error))
             }
             Err(_) => self.bad(Unknown::ThirdBad, room),
         }
@@ -437,7 +438,7 @@ mod tests {
         let mut host = opened(TEN);
         assert_eq!(host.byte(ACK), nothing());
         let step = host.hear(&ten(10));
-        let paid = Closing::Answered(Answer::PaidUpper(Payment { exit: 10, rejects: 3 }));
+        let paid = Closing::Answered(Answer::PaidUpper(Payment { exit: 10, rejects: 3 }), ErrorClass::Fine);
         assert_eq!(step, (vec![ACK], Some(paid)));
         let upper = host.session.account().upper;
         assert_eq!((upper.asked, upper.paid, upper.open, upper.rejected), (10, 10, 0, 3));
@@ -511,7 +512,7 @@ mod tests {
         assert_eq!(host.pass(39_999), nothing());
         let mut late = host.clone();
         assert_eq!(late.pass(1), unknown(&[], Unknown::NoStart));
-        assert!(matches!(host.hear(&ten(10)).1, Some(Closing::Answered(_))));
+        assert!(matches!(host.hear(&ten(10)).1, Some(Closing::Answered(..))));
     }
 
     #[test]
@@ -580,6 +581,20 @@ mod tests {
         assert_eq!(host.session.account().lower.rejected, 5);
         assert_eq!(host.session.account().lower.asked, 0);
         assert_eq!(host.session.account().upper.rejected, 0);
+    }
+
+    #[test]
+    fn the_class_of_the_error_is_handed_up_and_no_sum_depends_on_it() {
+        let counted = Counted { chk: 9, exit: 9, state: 0x30, rejects: 2 };
+        let mut sums = Vec::new();
+        for error in [0x30, 0x38, 0x3F, 0x4C, 0x3D, 0x37, 0x39] {
+            let mut host = opened(TEN);
+            host.byte(ACK);
+            let paid = Closing::Answered(Answer::PaidUpper(Payment { exit: 9, rejects: 2 }), ErrorClass::of(error));
+            assert_eq!(host.hear(&answer(Code::PayUpper, counted, counted, error)), (vec![ACK], Some(paid)));
+            sums.push(*host.session.account());
+        }
+        assert!(sums.iter().all(|account| *account == sums[0]));
     }
 
     #[test]

@@ -1,6 +1,8 @@
 //! Frames of the Model 2000T: "Command: 04h, 50h, 02h, code, counts, 03h, check. Answer: 01h, 50h, 02h, code, fields, 03h,
 //! check. The check is the exclusive or of all bytes before it."
 
+use crate::error_class::ErrorClass;
+
 /// The codes of the table.
 #[derive(Clone, Copy, Debug, PartialEq, Eq)]
 pub enum Code {
@@ -66,11 +68,6 @@ impl Code {
     }
 }
 
-/// The 27 published error codes. "An unlisted code is no reason to refuse the answer."
-pub fn is_listed(error: u8) -> bool {
-    matches!(error, 0x30..=0x38 | 0x3A..=0x3D | 0x3F..=0x4A | 0x4C | 0x4E)
-}
-
 /// The longest answer.
 pub const ANSWER: usize = 21;
 
@@ -114,7 +111,7 @@ impl Command {
 /// What a command begins with.
 pub const OPENING: u8 = 0x04;
 
-/// What a good answer says, as far as anybody asks here.
+/// What a good answer says beside its error, as far as anybody asks here.
 #[derive(Clone, Copy, Debug, PartialEq, Eq)]
 pub enum Answer {
     Purged,
@@ -187,8 +184,10 @@ fn within(byte: u8, low: u8, high: u8) -> Result<(), Fault> {
     }
 }
 
-fn error(byte: u8) -> Result<(), Fault> {
-    within(byte, 0x30, 0x7F)
+/// "The error byte may be 30h to 7Fh. .. An unlisted code is no reason to refuse the answer."
+fn error(byte: u8) -> Result<ErrorClass, Fault> {
+    within(byte, 0x30, 0x7F)?;
+    Ok(ErrorClass::of(byte))
 }
 
 fn state(byte: u8) -> Result<(), Fault> {
@@ -202,8 +201,9 @@ fn exit(bytes: &[u8]) -> Result<u32, Fault> {
     count(&bytes[2..], 69)
 }
 
-/// "Dispenser frames are tested thus: under 6 bytes, 11; opening, 12; code, 13; length for that code, 11; 14; 15; 16."
-pub fn read_answer(frame: &[u8]) -> Result<Answer, Fault> {
+/// "Dispenser frames are tested thus: under 6 bytes, 11; opening, 12; code, 13; length for that code, 11; 14; 15; 16." A good
+/// answer comes with the class of its error.
+pub fn read_answer(frame: &[u8]) -> Result<(Answer, ErrorClass), Fault> {
     let length = frame.len();
     if length < 6 {
         return Err(Fault::Length);
@@ -238,47 +238,44 @@ pub fn faults(code: Code, frame: &[u8]) -> Vec<Fault> {
 }
 
 #[inline]
-fn read_fields(code: Code, fields: &[u8]) -> Result<Answer, Fault> {
-    match code {
-        Code::Purge => {
-            error(fields[0])?;
-            Ok(Answer::Purged)
-        }
+fn read_fields(code: Code, fields: &[u8]) -> Result<(Answer, ErrorClass), Fault> {
+    Ok(match code {
+        Code::Purge => (Answer::Purged, error(fields[0])?),
         Code::Status => {
             within(fields[0], 0x30, 0x30)?;
-            error(fields[1])?;
+            let error = error(fields[1])?;
             within(fields[2], 0x80, 0xFF)?;
-            Ok(Answer::Status)
+            (Answer::Status, error)
         }
         Code::PayUpper | Code::PayLower => {
             let exit = exit(fields)?;
-            error(fields[4])?;
+            let error = error(fields[4])?;
             state(fields[5])?;
             let rejects = count(&fields[6..], 99)?;
             let payment = Payment { exit, rejects };
-            Ok(if code == Code::PayUpper { Answer::PaidUpper(payment) } else { Answer::PaidLower(payment) })
+            (if code == Code::PayUpper { Answer::PaidUpper(payment) } else { Answer::PaidLower(payment) }, error)
         }
         Code::PayBoth => {
             let (upper, lower) = (exit(fields)?, exit(&fields[4..])?);
-            error(fields[8])?;
+            let error = error(fields[8])?;
             state(fields[9])?;
             state(fields[10])?;
             let (upper_rejects, lower_rejects) = (count(&fields[11..], 99)?, count(&fields[13..], 99)?);
-            Ok(Answer::PaidBoth(
-                Payment { exit: upper, rejects: upper_rejects },
-                Payment { exit: lower, rejects: lower_rejects },
-            ))
+            let upper = Payment { exit: upper, rejects: upper_rejects };
+            let lower = Payment { exit: lower, rejects: lower_rejects };
+            (Answer::PaidBoth(upper, lower), error)
         }
         Code::TestUpper | Code::TestLower => {
             count(fields, 29)?;
             within(fields[2], 0x30, 0x30)?;
             within(fields[3], 0x30, 0x30)?;
-            error(fields[4])?;
+            let error = error(fields[4])?;
             state(fields[5])?;
             let rejects = count(&fields[6..], 99)?;
-            Ok(if code == Code::TestUpper { Answer::TestedUpper { rejects } } else { Answer::TestedLower { rejects } })
+            let upper = code == Code::TestUpper;
+            (if upper { Answer::TestedUpper { rejects } } else { Answer::TestedLower { rejects } }, error)
         }
-    }
+    })
 }
 
 /// 03h and the check, after what a frame holds before them.
@@ -369,7 +366,8 @@ mod tests {
     #[test]
     fn a_ten_note_answer_ends_in_15h() {
         let bytes = [0x01, 0x50, 0x02, 0x45, 0x31, 0x30, 0x31, 0x30, 0x30, 0x30, 0x30, 0x30, 0x03, 0x15];
-        assert_eq!(read_answer(&bytes), Ok(Answer::PaidUpper(Payment { exit: 10, rejects: 0 })));
+        let paid = Answer::PaidUpper(Payment { exit: 10, rejects: 0 });
+        assert_eq!(read_answer(&bytes), Ok((paid, ErrorClass::Fine)));
     }
 
     const PLAIN: Counted = Counted { chk: 10, exit: 9, state: 0x30, rejects: 2 };
@@ -396,17 +394,20 @@ mod tests {
     fn sensor_0_has_its_top_bit_and_sensor_1_is_any() {
         for byte in 0..=255 {
             assert_eq!(read_answer(&status(0x30, [byte, 0x00])).is_ok(), byte >= 0x80, "{byte:02X}");
-            assert_eq!(read_answer(&status(0x30, [0x80, byte])), Ok(Answer::Status), "{byte:02X}");
+            let read = read_answer(&status(0x4C, [0x80, byte]));
+            assert_eq!(read, Ok((Answer::Status, ErrorClass::Jam)), "{byte:02X}");
         }
     }
 
     #[test]
-    fn an_unlisted_error_stands_where_the_error_stands() {
-        assert_eq!((0..=255).filter(|&error| is_listed(error)).count(), 27);
-        for code in Code::ALL {
-            let bytes = answer(code, PLAIN, PLAIN, 0x39);
-            assert_eq!(bytes[code.error_at()], 0x39);
-            assert!(read_answer(&bytes).is_ok(), "{code:?}");
+    fn an_error_is_read_where_it_stands_and_its_class_is_handed_up() {
+        for error in 0x30..=0x7F {
+            for code in Code::ALL {
+                let bytes = answer(code, PLAIN, PLAIN, error);
+                assert_eq!(bytes[code.error_at()], error);
+                let class = read_answer(&bytes).map(|(_, class)| class);
+                assert_eq!(class, Ok(ErrorClass::of(error)), "{code:?} {error:02X}");
+            }
         }
     }
 

@@ -1,6 +1,7 @@
-//! The replay of document 01 a second time, in Rust, written from the document and not from the crates beside it: what a
-//! recording holds, what both sessions make of it, and the report. Around it stands what compares the two: recordings made
-//! from a seed, a count of what they reached, and a search for the shortest recording that shows a difference.
+//! The replay of document 01 a second time, with the requests of document 02 that have landed, in Rust, written from the
+//! documents and not from the crates beside it: what a recording holds, what both sessions make of it, and the report. Around
+//! it stands what compares the two: recordings made from a seed, a count of what they reached, and a search for the shortest
+//! recording that shows a difference.
 //!
 //! The names in quotation marks are document 01's sections.
 
@@ -10,10 +11,11 @@ pub mod recording;
 pub mod replay;
 pub mod report;
 
-// "Dispenser frames", "The dispenser session", "The account"
+// "Dispenser frames", "The dispenser session", "The account"; Q-5 of document 02
 pub mod account;
 pub mod dispenser;
 pub mod dispenser_frame;
+pub mod error_class;
 
 // "CCNET frames", "The validator session"
 pub mod ccnet_frame;
@@ -27,6 +29,7 @@ pub mod text;
 
 // The comparison and the timing.
 pub mod loads;
+pub mod misread;
 pub mod other;
 pub mod reach;
 pub mod shrink;

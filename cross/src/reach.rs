@@ -48,6 +48,17 @@ places! {
     Short = 100, "account: short";
     BothCassettes = 100, "account: both cassettes in one command";
     TestRejects = 100, "account: rejects of a test";
+    LastError = 100, "report: a last error of each class":
+        "fine" "out of notes" "not seated" "jam" "count in doubt" "other listed" "unlisted";
+    LastErrorNone = 100, "report: no last error, beside one": "upper" "lower";
+    LastErrorListed = 100, "report: a last error of each listed code":
+        "30h" "31h" "32h" "33h" "34h" "35h" "36h" "37h" "38h" "3Ah" "3Bh" "3Ch" "3Dh" "3Fh" "40h" "41h" "42h" "43h"
+        "44h" "45h" "46h" "47h" "48h" "49h" "4Ah" "4Ch" "4Eh";
+    LastErrorBeside = 100, "report: a last error beside the listed codes": "39h" "3Eh" "4Bh" "4Dh" "4Fh" "7Fh";
+    LastErrorLeft = 100, "last error: left as it was by":
+        "a status answer of another class" "a purge answer of another class" "a bad frame of another class" "a refused closing"
+        "an unknown closing";
+    LastErrorSet = 100, "last error: set by": "pay both on the lower" "pay both on the upper" "76h" "77h";
     Acknowledged = 100, "validator: acknowledged";
     RefusedByNak = 100, "validator: refused by NAK";
     Illegal = 100, "validator: illegal";
@@ -165,5 +176,37 @@ mod tests {
         assert!(reach.missing(20_000).contains(&"recording: bad 23, unknown kind: 255".to_string()));
         assert!(reach.missing(200).contains(&"recording: good".to_string()));
         assert!(!reach.missing(200).contains(&"recording: bad 23, unknown kind: 255".to_string()));
+    }
+
+    /// The parts that a recording reaches of places with this in their names.
+    fn parts(name: &str, bytes: &[u8]) -> Vec<&'static str> {
+        let mut reach = Reach::default();
+        reach.count(bytes);
+        let mut all = Vec::new();
+        for ((place, _, parts), counts) in PLACES.iter().zip(&reach.counts) {
+            if place.contains(name) {
+                all.extend(parts.iter().zip(counts).filter(|(_, &count)| count > 0).map(|(&part, _)| part));
+            }
+        }
+        all
+    }
+
+    #[test]
+    fn a_last_error_is_reached_where_the_report_shows_it() {
+        let mut text = String::from(
+            "tick 1000 x6\n\
+             pay both 10 10\n\
+             dispenser 06 01 50 02 56 31 30 31 30 31 30 31 30 4C 30 30 30 30 30 30 03 4A\n",
+        );
+        let reached = |text: &str| parts("last error", &crate::text::recording(text).unwrap());
+        let both = ["jam", "4Ch", "pay both on the lower", "pay both on the upper"];
+        assert_eq!(reached(&text), both);
+        // a status that set both would show on both, and then still on the lower
+        text += "tick 1000 x6\nstatus\ndispenser 06 01 50 02 46 30 40 80 00 03 E6\n";
+        assert_eq!(reached(&text), ["jam", "4Ch", "a status answer of another class", both[2], both[3]]);
+        text += "tick 1000 x6\ntest upper\ndispenser 06 01 50 02 76 30 30 30 30 39 30 30 30 03 2F\n";
+        let lower = ["jam", "unlisted", "4Ch", "39h", "a status answer of another class", both[2], "76h"];
+        assert_eq!(reached(&text), lower);
+        assert!(reached(&(text + "raw FF\n")).is_empty());
     }
 }

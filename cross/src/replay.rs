@@ -1,6 +1,7 @@
 //! A recording played through both fresh sessions.
 
-use crate::dispenser::{self, Declined};
+use crate::dispenser::{self, Closing, Declined};
+use crate::error_class::LastErrors;
 use crate::recording::{self, Bad, Record};
 use crate::validator;
 use std::hint::black_box;
@@ -37,6 +38,7 @@ impl Default for Rooms {
 pub struct Bench {
     pub dispenser: dispenser::Session,
     pub validator: validator::Session,
+    pub last_errors: LastErrors,
     pub declined: u32,
     pub records: u32,
 }
@@ -73,7 +75,14 @@ impl Bench {
         let Rooms { dispenser, validator } = rooms;
         Ok(match record {
             Record::Request(command) => Played::Dispenser(self.dispenser.request(command, dispenser)?),
-            Record::DispenserByte(byte) => Played::Dispenser(self.dispenser.byte(byte, dispenser)?),
+            Record::DispenserByte(byte) => {
+                let step = self.dispenser.byte(byte, dispenser)?;
+                // no other record can bring an answer
+                if let Some(Closing::Answered(answer, error)) = step.closing {
+                    self.last_errors.answered(answer, error);
+                }
+                Played::Dispenser(step)
+            }
             // both sessions judge a tick by the same rule, so that neither refuses what the other takes
             Record::Tick(ms) => Played::Both(self.dispenser.tick(ms, dispenser)?, self.validator.tick(ms, validator)?),
             Record::ValidatorByte(byte) => Played::Validator(self.validator.byte(byte, validator)?),

@@ -1,6 +1,7 @@
 //! The report of a recording: "Every line ends with 0Ah."
 
 use crate::account::Sums;
+use crate::error_class::ErrorClass;
 use crate::replay::{replay, Bench};
 
 /// The report, good or bad: a function of the recording's bytes.
@@ -15,6 +16,8 @@ pub fn report(recording: &[u8]) -> String {
 fn lines(bench: &Bench) -> String {
     let account = bench.dispenser.account();
     let mut text = cassette("upper", &account.upper) + &cassette("lower", &account.lower);
+    text += &last_error("upper", bench.last_errors.upper);
+    text += &last_error("lower", bench.last_errors.lower);
     text += &format!("declined {}\n", bench.declined);
     // "A line "type 3 bills 2" per type seen, rising, stands between "declined" and "records"."
     for (kind, bills) in bench.validator.bills().iter().enumerate().filter(|(_, &bills)| bills > 0) {
@@ -30,12 +33,21 @@ fn cassette(name: &str, sums: &Sums) -> String {
     )
 }
 
+/// "after the two cassette lines the report adds "upper last error NAME" and "lower last error NAME" .., "none" before any."
+fn last_error(name: &str, error: Option<ErrorClass>) -> String {
+    format!("{name} last error {}\n", error.map_or("none", ErrorClass::name))
+}
+
 #[cfg(test)]
 mod tests {
     use super::*;
+    use crate::dispenser_frame::{answer, Code, Counted};
+    use crate::text;
 
     const EMPTY: &str = "upper asked 0 paid 0 short 0 over 0 refused 0 unknown 0 open 0 rejected 0\n\
                          lower asked 0 paid 0 short 0 over 0 refused 0 unknown 0 open 0 rejected 0\n\
+                         upper last error none\n\
+                         lower last error none\n\
                          declined 0\n\
                          records 0\n";
 
@@ -51,6 +63,8 @@ mod tests {
         }
         let wanted = "upper asked 10 paid 10 short 0 over 0 refused 0 unknown 0 open 0 rejected 0\n\
                       lower asked 0 paid 0 short 0 over 0 refused 0 unknown 0 open 0 rejected 0\n\
+                      upper last error fine\n\
+                      lower last error none\n\
                       declined 0\n\
                       records 22\n";
         assert_eq!(report(&recording), wanted);
@@ -91,5 +105,116 @@ mod tests {
         }
         let text = report(&recording);
         assert!(text.contains("declined 0\ntype 0 bills 1\ntype 3 bills 1\ntype 23 bills 1\nrecords 27\n"), "{text}");
+    }
+
+    /// What the dispenser says to a command that is done, with this error.
+    fn done(code: Code, error: u8) -> Vec<u8> {
+        let counted = Counted { chk: 10, exit: 10, state: 0x30, rejects: 0 };
+        [vec![0x06], answer(code, counted, counted, error)].concat()
+    }
+
+    /// Adds a command on a line that has been quiet for long enough, and what the dispenser says to it.
+    fn asked(command: &str, said: &[u8], recording: &mut Vec<u8>) {
+        recording.extend(text::recording(&format!("tick 1000 x96\n{command}")).unwrap());
+        for &byte in said {
+            crate::recording::write(crate::recording::DISPENSER_BYTE, &[u32::from(byte)], recording);
+        }
+    }
+
+    /// The third and the fourth line.
+    fn last_errors(recording: &[u8]) -> [String; 2] {
+        let text = report(recording);
+        let lines: Vec<&str> = text.lines().collect();
+        assert!(lines[4].starts_with("declined "), "{text}");
+        [lines[2].to_string(), lines[3].to_string()]
+    }
+
+    fn named(upper: &str, lower: &str) -> [String; 2] {
+        [format!("upper last error {upper}"), format!("lower last error {lower}")]
+    }
+
+    #[test]
+    fn each_class_has_its_name_on_the_cassette_of_the_answer() {
+        let names = [
+            (0x30, "fine"),
+            (0x40, "out of notes"),
+            (0x46, "not seated"),
+            (0x4E, "jam"),
+            (0x3A, "count in doubt"),
+            (0x4A, "other listed"),
+            (0x39, "unlisted"),
+            (0x3E, "unlisted"),
+            (0x4B, "unlisted"),
+            (0x4D, "unlisted"),
+            (0x4F, "unlisted"),
+            (0x7F, "unlisted"),
+        ];
+        for (error, name) in names {
+            for (command, code, wanted) in [
+                ("pay upper 10", Code::PayUpper, named(name, "none")),
+                ("test upper", Code::TestUpper, named(name, "none")),
+                ("pay lower 10", Code::PayLower, named("none", name)),
+                ("test lower", Code::TestLower, named("none", name)),
+                ("pay both 10 10", Code::PayBoth, named(name, name)),
+                ("status", Code::Status, named("none", "none")),
+                ("purge", Code::Purge, named("none", "none")),
+            ] {
+                let mut recording = Vec::new();
+                asked(command, &done(code, error), &mut recording);
+                assert_eq!(last_errors(&recording), wanted, "{command} {error:02X}");
+            }
+        }
+    }
+
+    #[test]
+    fn the_last_answer_of_a_cassette_names_it() {
+        let mut recording = Vec::new();
+        for (command, code, error, upper, lower) in [
+            ("pay upper 10", Code::PayUpper, 0x33, "jam", "none"),
+            ("pay lower 10", Code::PayLower, 0x38, "jam", "out of notes"),
+            ("test upper", Code::TestUpper, 0x30, "fine", "out of notes"),
+            ("pay both 10 10", Code::PayBoth, 0x3D, "count in doubt", "count in doubt"),
+            ("test lower", Code::TestLower, 0x4D, "count in doubt", "unlisted"),
+            ("pay both 10 10", Code::PayBoth, 0x31, "fine", "fine"),
+        ] {
+            asked(command, &done(code, error), &mut recording);
+            assert_eq!(last_errors(&recording), named(upper, lower), "{command}");
+        }
+    }
+
+    #[test]
+    fn what_leaves_the_name() {
+        let mut recording = Vec::new();
+        asked("pay both 10 10", &done(Code::PayBoth, 0x35), &mut recording);
+        let mut bad = done(Code::PayUpper, 0x40);
+        let last = bad.len() - 1;
+        bad[last] ^= 1;
+        // the answer three times, after one 06h
+        let thrice = |answer: &[u8]| [answer, &answer[1..], &answer[1..]].concat();
+        for (command, said) in [
+            ("status", done(Code::Status, 0x40)),
+            ("purge", done(Code::Purge, 0x40)),
+            ("pay upper 10", vec![0x15; 4]),
+            ("test lower", vec![0x15; 4]),
+            ("pay both 10 10", vec![0x00]),
+            ("test upper", vec![]),
+            ("pay upper 10", thrice(&bad)),
+            ("pay upper 10", thrice(&done(Code::PayLower, 0x40))),
+            ("pay upper 10", thrice(&done(Code::PayUpper, 0x2F))),
+            ("pay lower 61", vec![]),
+            ("pay both 10 10", vec![0x06]),
+        ] {
+            asked(command, &said, &mut recording);
+            assert_eq!(last_errors(&recording), named("jam", "jam"), "{command} {said:02X?}");
+        }
+    }
+
+    #[test]
+    fn a_bad_recording_names_no_error() {
+        let mut recording = Vec::new();
+        asked("pay upper 10", &done(Code::PayUpper, 0x35), &mut recording);
+        let at = recording.len();
+        recording.push(0xFF);
+        assert_eq!(report(&recording), format!("bad 23 at {at}\n"));
     }
 }

@@ -3,7 +3,9 @@
 use crate::account::Sums;
 use crate::ccnet_frame::{self, Class, SYNC};
 use crate::dispenser::{self, Declined};
-use crate::dispenser_frame::{check, faults, is_listed, read_answer, Answer, Code, Fault, OPENING};
+use crate::dispenser_frame::{check, faults, read_answer, Answer, Code, Fault, OPENING};
+use crate::error_class::{ErrorClass, BESIDE, LISTED};
+use crate::misread::Errors;
 use crate::number;
 use crate::reach::{Place, Reached};
 use crate::recording::{self, Bad, Record};
@@ -151,6 +153,7 @@ struct Watch {
     naks: u32,
     /// Whether it was closed by silence after a hand-over again.
     silent: bool,
+    errors: Errors,
 }
 
 impl Watch {
@@ -165,6 +168,7 @@ impl Watch {
             hand_overs: 0,
             naks: 0,
             silent: false,
+            errors: Errors::default(),
         }
     }
 
@@ -181,7 +185,35 @@ impl Watch {
         if either(|sums| sums.open) {
             self.all.mark(Place::LeftOpen);
         }
+        self.last_errors();
         self.all
+    }
+
+    /// The lines "last error".
+    fn last_errors(&mut self) {
+        let last = self.bench.last_errors;
+        for class in [last.upper, last.lower].into_iter().flatten() {
+            self.all.part(Place::LastError, class as usize);
+        }
+        match (last.upper, last.lower) {
+            (None, Some(_)) => self.all.part(Place::LastErrorNone, 0),
+            (Some(_), None) => self.all.part(Place::LastErrorNone, 1),
+            _ => {}
+        }
+        for error in self.errors.named() {
+            if let Some(part) = LISTED.iter().position(|&one| one == error) {
+                self.all.part(Place::LastErrorListed, part);
+            }
+            if let Some(part) = BESIDE.iter().position(|&one| one == error) {
+                self.all.part(Place::LastErrorBeside, part);
+            }
+        }
+        for wrong in self.errors.told_apart() {
+            match wrong.checked_sub(Errors::LEFT) {
+                None => self.all.part(Place::LastErrorLeft, wrong),
+                Some(part) => self.all.part(Place::LastErrorSet, part),
+            }
+        }
     }
 
     fn play(&mut self, record: Record) {
@@ -306,7 +338,9 @@ impl Watch {
         if *since_start == dispenser::Session::FRAME - 1 {
             self.all.part(Place::SlowAnswer, 0);
         }
-        if !is_listed(frame[self.code.error_at()]) {
+        let error = frame[self.code.error_at()];
+        self.errors.answered(self.code, error);
+        if ErrorClass::of(error) == ErrorClass::Unlisted {
             self.all.part(Place::Unlisted, self.code as usize);
         }
         let sensors = [0x01, 0x03, 0x04, 0x06, 0x15];
@@ -322,6 +356,7 @@ impl Watch {
         /// By their places in the list above; fields are not judged by another code's layout.
         const PAIRS: [(usize, usize); 9] = [(0, 1), (0, 2), (0, 3), (0, 4), (1, 2), (1, 3), (2, 3), (2, 4), (3, 4)];
         let frame = &self.dispenser.frame;
+        self.errors.bad_frame(self.code, frame[self.code.error_at()]);
         let faults = faults(self.code, frame);
         if let [fault] = faults[..] {
             if let Some(part) = FAULTS.iter().position(|&one| one == fault) {
@@ -360,7 +395,7 @@ impl Watch {
     fn dispenser_closed(&mut self, closing: dispenser::Closing) {
         use dispenser::{Closing, Unknown};
         self.all.mark(match closing {
-            Closing::Answered(_) => Place::Answered,
+            Closing::Answered(..) => Place::Answered,
             Closing::Refused => Place::Refused,
             Closing::Unknown(Unknown::OtherByte) => Place::OtherByte,
             Closing::Unknown(Unknown::Silence) => Place::NoFirstByte,
@@ -369,7 +404,11 @@ impl Watch {
             Closing::Unknown(Unknown::ThirdBad) => Place::ThirdBad,
             Closing::Unknown(Unknown::ThirdLate) => Place::ThirdLate,
         });
-        let Closing::Answered(answer) = closing else { return };
+        let answer = match closing {
+            Closing::Answered(answer, _) => answer,
+            Closing::Refused => return self.errors.refused(self.code),
+            Closing::Unknown(_) => return self.errors.unknown(self.code),
+        };
         if self.hand_overs > 1 {
             self.all.part(Place::HandedOverAgain, self.hand_overs as usize - 2);
         }

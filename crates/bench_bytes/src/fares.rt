@@ -4,6 +4,7 @@ use ccnet_frame::Class;
 use ccnet_frame::Judged;
 use dispenser_frame_rules::AnswerRead;
 use dispenser_frame_rules::CommandRead;
+use error_codes::ErrorClass;
 use refusals::Put;
 
 const READ: u8 = 32;
@@ -53,13 +54,16 @@ pub(crate) fn of_command(s: &[u8]) -> u8 {
 
 pub(crate) fn of_answer(s: &[u8]) -> u8 {
     match dispenser_frame::read_answer(s) {
-        AnswerRead::Read { answer: _, listed } => of_error(listed),
+        AnswerRead::Read { answer: _, class } => of_error(class),
         AnswerRead::Refused(why) => why.number(),
     }
 }
 
-fn of_error(listed: bool) -> u8 {
-    if listed { LISTED } else { UNLISTED }
+fn of_error(class: ErrorClass) -> u8 {
+    match class {
+        ErrorClass::Unlisted => UNLISTED,
+        _ => LISTED,
+    }
 }
 
 pub(crate) fn of_frame(s: &[u8]) -> u8 {

@@ -1,6 +1,6 @@
 // The lines of the bench sheet that a dispenser session takes, run. A line of the file `stdin` that begins with session is a call or calls, and
 // is written with what came of it; any other line is written as it stands. The file `stdout` has what the run must write, made from
-// document 01 and not from a run.
+// documents 01 and 02 and not from a run.
 use dispenser_rules::Session;
 
 mod session_lines;

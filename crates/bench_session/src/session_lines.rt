@@ -12,6 +12,7 @@ use dispenser_frame_rules::Answer;
 use dispenser_rules::Closing;
 use dispenser_rules::Reply;
 use dispenser_rules::Session;
+use error_codes::ErrorClass;
 use exchange_rules::Sums;
 use refusals::Put;
 
@@ -202,15 +203,15 @@ fn show_sent(put: usize, lent: &[u8]) {
 fn show_closing(closing: Closing) {
     match closing {
         Closing::Nothing => {}
-        Closing::Answered(answer, listed) => show_answered(answer, listed),
+        Closing::Answered(answer, class) => show_answered(answer, class),
         Closing::Refused => sheet::print_text(b"    closed, refused\n"),
         Closing::Unknown => sheet::print_text(b"    closed, unknown\n"),
     }
 }
 
-fn show_answered(answer: Answer, listed: bool) {
+fn show_answered(answer: Answer, class: ErrorClass) {
     sheet::print_text(b"    closed, answered");
-    sheet_answer::print_read(answer, listed);
+    sheet_answer::print_read(answer, class);
 }
 
 fn print_sums(name: &[u8], s: Sums) {

@@ -12,6 +12,7 @@
 use dispenser_frame_rules::Answer;
 use dispenser_frame_rules::AnswerRead;
 use dispenser_frame_rules::Cassette;
+use error_codes::ErrorClass;
 use refusals::Put;
 
 // The answer that a line gives, with its fields in 01's order.
@@ -87,9 +88,9 @@ pub(crate) fn put(line: &[u8], room: &mut [u8]) -> Put {
 // What reading an answer finds.
 pub(crate) fn found(s: &[u8]) {
     match dispenser_frame::read_answer(s) {
-        AnswerRead::Read { answer, listed } => {
+        AnswerRead::Read { answer, class } => {
             sheet::print_text(b" reads as");
-            sheet_answer::print_read(answer, listed);
+            sheet_answer::print_read(answer, class);
         }
         AnswerRead::Refused(why) => sheet::print_fault(why.number()),
     }
@@ -100,8 +101,9 @@ pub(crate) fn listed_bytes() -> usize {
     let mut n: usize = 0;
     let mut b: u32 = 0;
     while b < 256 {
-        if dispenser_frame::is_listed(b as u8) {
-            n += 1;
+        match error_codes::class_of(b as u8) {
+            ErrorClass::Unlisted => {}
+            _ => n += 1,
         }
         b += 1;
     }

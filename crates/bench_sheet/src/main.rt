@@ -1,7 +1,7 @@
 // The bench sheet of document 01, run. The sheet is what the program reads, the file `stdin`, of at most 65,536 bytes: a line that begins
-// with write, read, count or validator is tried, and written with what came of it; any other line, as the sentence of 01 that the next ones
-// try, is written as it stands. The file `stdout` has what the run must write, made from 01 and 003 and not from a run. The starred lines
-// are proved besides, in specs/Sheet.antt.
+// with write, read, count or validator is tried, and written with what came of it; any other line, as the sentence of 01 or 02 that the
+// next ones try, is written as it stands. The file `stdout` has what the run must write, made from 01, 02 and 003 and not from a run. The
+// starred lines are proved besides, in specs/Sheet.antt.
 //
 // The lines are data and not code, so that the sheet can grow and the proofs do not.
 mod answer_lines;

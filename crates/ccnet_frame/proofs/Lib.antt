@@ -2,7 +2,6 @@
 pub mod Checks
 pub mod Xor
 pub mod Turns
-pub mod Below
 pub mod WholeByte
 pub mod Laying
 pub mod Frames

@@ -9,7 +9,7 @@ use lib.Pow.{split}
 use lib.Bits.{bitXor, xor-shifted, xor-mod}
 use Rattle.ccnet_frame.specs.Check.{turn, turns}
 use Rattle.ccnet_frame.proofs.Turns.{turns-xor, turns-shift}
-use Rattle.ccnet_frame.proofs.Below.{both, below, at}
+use Rattle.numbers.proofs.Below.{both, below, at}
 
 -- a byte with its low half added to its high half
 unfoldable pub spread : ℕ → ℕ

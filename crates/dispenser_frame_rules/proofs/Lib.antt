@@ -1,5 +1,4 @@
 -- The laws of `dispenser_frame_rules`.
-pub mod Published
 pub mod Codes
 pub mod Raw
 pub mod Exact

@@ -1,7 +1,7 @@
--- The error byte of an answer is the frame's own, and so is whether it is told as listed. Assumes nothing.
+-- The error byte of an answer is the frame's own, and the class told beside it is its own. Assumes nothing.
 use Prim.Native.Nat.{ℕ}
 use mathlib.Core.Path.{_≡_, refl, sym, ap, _∙_}
-use mathlib.Core.Bool.{Bool, false}
+use mathlib.Core.Bool.{false}
 use mathlib.Core.List.{List}
 use lib.ListN.{getD}
 use Rattle.refusals.proofs.Rules.{holds-true}
@@ -10,7 +10,8 @@ use Rattle.xor_frame.specs.Frame.{soh, codeOf}
 use Rattle.xor_frame.proofs.Frames.{passed-known}
 use Rattle.dispenser_frame_rules.specs.Table.{modelId, known, table, codeIn, lineIn, line, answerFields}
 use Rattle.dispenser_frame_rules.specs.Answer.{answerError, answerIn, readAnswer}
-use Rattle.dispenser_frame_rules.specs.Errors.{listed}
+use Rattle.error_codes.specs.Errors.{errorClass}
+use Rattle.error_codes.specs.declared.ErrorClass.{ErrorClass}
 use Rattle.dispenser_frame_rules.specs.Promises.{ErrorTold, errorIn, errorPlace}
 use Rattle.dispenser_frame_rules.specs.declared.answer.Answer.{Answer}
 use Rattle.dispenser_frame_rules.specs.declared.answer.AnswerRead.the-variants.{Read as Found}
@@ -26,17 +27,13 @@ placed s =
     (λ k. refl) (λ k. refl) (λ k. refl) (λ k. refl) (λ k. refl) (λ k. refl) (λ k. refl)
     (λ code a b c d e f g k. let n : known code .test ≡ false = simp (a, b, c, d, e, f, g) in absurd (known code .tells .denied n k))
 
-placed-in : (s : List ℕ) (a : Answer) (b : Bool) → readAnswer s ≡ Found a b → answerError (answerIn s) ≡ errorIn s
+placed-in : (s : List ℕ) (a : Answer) (b : ErrorClass) → readAnswer s ≡ Found a b → answerError (answerIn s) ≡ errorIn s
 placed-in s a b e = placed s (codeOf s) (passed-known soh modelId known answerFields s (answer-passed s a b e .none))
 
--- what is read is told as listed exactly where its error byte is
+-- the class told is that of the error byte
 pub error-as-told : ErrorTold
 error-as-told =
     record {
       error = λ s a b e. ap answerError (sym (answer-passed s a b e .is)) ∙ placed-in s a b e;
-      told = λ s a b e.
-          let t : b ≡ listed (errorIn s) .test = answer-passed s a b e .told ∙ ap (λ (x : ℕ). listed x .test) (placed-in s a b e) in (
-            λ y. listed (errorIn s) .tells .shown (sym t ∙ y),
-            λ h. t ∙ holds-true (listed (errorIn s)) h,
-          );
+      told = λ s a b e. answer-passed s a b e .told ∙ ap errorClass (placed-in s a b e);
     }

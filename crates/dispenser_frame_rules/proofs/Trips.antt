@@ -18,7 +18,8 @@ use Rattle.dispenser_frame_rules.specs.Table.{modelId, row, none, line, 
 use Rattle.xor_frame.specs.Frame.{eot, soh, frame, closed, codeOf}
 use Rattle.dispenser_frame_rules.specs.Command.{countsFit, sendable, commandFrame, commandRefusals, writeCommand, askedAt, commandIn, commandFaults, readCommand}
 use Rattle.dispenser_frame_rules.specs.Answer.{answerCode, answerValues, answerError, answerFits, answerFrame, answerRefusals, writeAnswer, readAs, answerIn, answerFaults, readAnswer}
-use Rattle.dispenser_frame_rules.specs.Errors.{listed}
+use Rattle.error_codes.specs.Errors.{errorClass}
+use Rattle.error_codes.specs.declared.ErrorClass.{ErrorClass}
 use Rattle.dispenser_frame_rules.specs.Promises.{CommandTrips, AnswerTrips}
 use Rattle.dispenser_frame_rules.specs.declared.command.CommandRead.the-variants.{Read, Refused}
 use Rattle.dispenser_frame_rules.specs.declared.answer.Cassette.{Cassette}
@@ -250,12 +251,12 @@ pub answer-length : (a : Answer) → answerFits a .holds → length (answerFrame
 unfolding answerFrame answerFits
 answer-length a h = whole-length soh modelId (answerCode a) known answerFields (answerValues a) (answers-sound (answerCode a)) (answer-known a) h
 
-pub record Answered (s : List ℕ) (a : Answer) (b : Bool) : Type 1 where
+pub record Answered (s : List ℕ) (a : Answer) (b : ErrorClass) : Type 1 where
   pub none : NoneOf (answerFaults s)
   pub is : answerIn s ≡ a
-  pub told : b ≡ listed (answerError (answerIn s)) .test
+  pub told : b ≡ errorClass (answerError (answerIn s))
 
-pub answer-passed : (s : List ℕ) (a : Answer) (b : Bool) → readAnswer s ≡ Found a b → Answered s a b
+pub answer-passed : (s : List ℕ) (a : Answer) (b : ErrorClass) → readAnswer s ≡ Found a b → Answered s a b
 unfolding readAnswer
 answer-passed s a b e =
     ⊎-elim

@@ -10,7 +10,7 @@ use Rattle.xor_frame.specs.Layout.{allInRange, allBytes, allValues}
 use Rattle.dispenser_frame_rules.specs.Table.{modelId, purgeCode, payUpperCode, statusCode, payLowerCode, payBothCode, testUpperCode, testLowerCode, known, line, answerFields, answerLength}
 use Rattle.xor_frame.specs.Frame.{soh, frame, codeOf, faults}
 use Rattle.xor_frame.specs.declared.frame.Fault.{Fault}
-use Rattle.dispenser_frame_rules.specs.Errors.{listed}
+use Rattle.error_codes.specs.Errors.{errorClass}
 use Rattle.dispenser_frame_rules.specs.declared.answer.Cassette.{Cassette}
 use Rattle.dispenser_frame_rules.specs.declared.answer.Cassette.the-variants.{Upper, Lower}
 use Rattle.dispenser_frame_rules.specs.declared.answer.Answer.{Answer}
@@ -69,9 +69,9 @@ answerRefusals a room =
 unfoldable pub writeAnswer : Answer → List ℕ → Written
 writeAnswer a room = judged (answerRefusals a room) (λ why. refused why room) (laid (answerFrame a) room)
 
--- an answer, with whether its error byte is one of the published
+-- an answer, with the class of its error byte
 abbrev pub readAs : Answer → AnswerRead
-readAs a = Read a (listed (answerError a) .test)
+readAs a = Read a (errorClass (answerError a))
 
 -- the answer that a frame holds
 abbrev pub answerIn : List ℕ → Answer

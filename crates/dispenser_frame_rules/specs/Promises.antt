@@ -1,8 +1,6 @@
--- What is promised of dispenser frames: the statements, proved in proofs/Trips.antt, proofs/Exact.antt, proofs/Told.antt and
--- proofs/Published.antt.
+-- What is promised of dispenser frames: the statements, proved in proofs/Trips.antt, proofs/Exact.antt and proofs/Told.antt.
 use Prim.Native.Nat.{ℕ, _≤_}
 use mathlib.Core.Path.{_≡_}
-use mathlib.Core.Bool.{Bool, true}
 use mathlib.Core.List.{List, [], _∷_, map}
 use mathlib.Core.Logic.{_⊎_, _↔_}
 use lib.ListN.{length, take, getD}
@@ -12,7 +10,8 @@ use Rattle.refusals.specs.Put.{written, refused, laid}
 use Rattle.refusals.specs.declared.Put.the-variants.{Bytes}
 use Rattle.dispenser_frame_rules.specs.Table.{table, commandLength, answerLength}
 use Rattle.xor_frame.specs.Frame.{faultNumber, codeOf}
-use Rattle.dispenser_frame_rules.specs.Errors.{published, listed}
+use Rattle.error_codes.specs.Errors.{errorClass}
+use Rattle.error_codes.specs.declared.ErrorClass.{ErrorClass}
 use Rattle.dispenser_frame_rules.specs.Command.{sendable, commandFrame, commandRefusals, writeCommand, commandIn, commandFaults, readCommand}
 use Rattle.dispenser_frame_rules.specs.Answer.{answerError, answerFrame, answerRefusals, writeAnswer, readAs, answerIn, answerFaults, readAnswer}
 use Rattle.dispenser_frame_rules.specs.declared.command.CommandRead.the-variants.{Read, Refused}
@@ -30,7 +29,7 @@ pub record CommandTrips : Type 0 where
 -- the same for answers
 pub record AnswerTrips : Type 0 where
   pub back : (a : Answer) (n : ℕ) (room after : List ℕ) → writeAnswer a room ≡ written (Bytes n) after → readAnswer (take n after) ≡ readAs a
-  pub again : (s room : List ℕ) (a : Answer) (known : Bool) → readAnswer s ≡ Found a known → length s ≤ length room
+  pub again : (s room : List ℕ) (a : Answer) (class : ErrorClass) → readAnswer s ≡ Found a class → length s ≤ length room
       → writeAnswer a room ≡ laid s room
 
 -- "Given exactly when": each number exactly when its condition is the first that holds, in 01's order, and done exactly when none does
@@ -64,10 +63,10 @@ errorPlace code = firstOf (same code 0x44 gives 4 ∷ same code 0x46 gives 5 ∷
 abbrev pub errorIn : List ℕ → ℕ
 errorIn s = getD s (errorPlace (codeOf s)) 0
 
--- an answer that is read has the frame's error byte, and is told as listed exactly where that byte is
+-- an answer that is read has the frame's error byte, and the class told beside it is that byte's
 pub record ErrorTold : Type 0 where
-  pub error : (s : List ℕ) (a : Answer) (known : Bool) → readAnswer s ≡ Found a known → answerError a ≡ errorIn s
-  pub told : (s : List ℕ) (a : Answer) (known : Bool) → readAnswer s ≡ Found a known → (known ≡ true) ↔ listed (errorIn s) .holds
+  pub error : (s : List ℕ) (a : Answer) (class : ErrorClass) → readAnswer s ≡ Found a class → answerError a ≡ errorIn s
+  pub told : (s : List ℕ) (a : Answer) (class : ErrorClass) → readAnswer s ≡ Found a class → class ≡ errorClass (errorIn s)
 
 -- the table's columns "Command bytes" and "Answer bytes"
 pub record Lengths : Type 0 where
@@ -82,10 +81,3 @@ abbrev pub Columns : Type 0
 Columns =
     map (λ r. bytes (r .code) (commandLength (r .code)) (answerLength (r .code))) table
     ≡ bytes 0x44 6 7 ∷ bytes 0x45 8 14 ∷ bytes 0x46 6 10 ∷ bytes 0x55 8 14 ∷ bytes 0x56 10 21 ∷ bytes 0x76 6 14 ∷ bytes 0x77 6 14 ∷ []
-
--- the list of published codes: 27, and a byte is listed exactly where it is 30h to 38h, 3Ah to 3Dh, 3Fh to 4Ah, 4Ch or 4Eh
-pub record Published : Type 0 where
-  pub many : length published ≡ 27
-  pub exactly : (b : ℕ)
-      → listed b .holds
-      ↔ (within 0x30 0x38 b .holds ⊎ (within 0x3A 0x3D b .holds ⊎ (within 0x3F 0x4A b .holds ⊎ ((b ≡ 0x4C) ⊎ (b ≡ 0x4E)))))

@@ -1,4 +1,5 @@
 // What an answer says, and what reading one finds.
+use error_codes::ErrorClass;
 use xor_frame::Fault;
 
 // Which cassette an answer speaks of.
@@ -45,8 +46,8 @@ pub enum Answer {
     },
 }
 
-// What reading an answer frame finds: the answer, and beside it whether its error byte is one of the 27 published codes.
+// What reading an answer frame finds: the answer, and beside it the class of its error byte.
 pub enum AnswerRead {
-    Read { answer: Answer, listed: bool },
+    Read { answer: Answer, class: ErrorClass },
     Refused(Fault),
 }

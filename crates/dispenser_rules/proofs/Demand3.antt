@@ -33,7 +33,7 @@ fresh-sums : (c : Cassette) → cassette freshAccount c ≡ freshSums
 fresh-sums Upper = refl
 fresh-sums Lower = refl
 
-fresh-kept : Kept lawful session freshSession []
+pub fresh-kept : Kept lawful session freshSession []
 unfolding freshSession lengthWith codeIn table
 fresh-kept =
     record {

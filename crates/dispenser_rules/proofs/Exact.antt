@@ -36,7 +36,7 @@ either-told false w v g h = h
 
 judged-told : (x : AnswerRead) (l : Line) (a : Asked) (r : List ℕ) → IsDone (returned (judgedStep x l a r .reply))
 unfolding badStep
-judged-told (Read answer listed) l a r =
+judged-told (Read answer class) l a r =
     either-told (eqb (answerCode answer) (a .code)) _ _ (_, (_, refl)) (acted-told (badFrame l .todo) (badFrame l .line) a r)
 judged-told (NotRead fault) l a r = acted-told (badFrame l .todo) (badFrame l .line) a r
 

@@ -76,11 +76,11 @@ module _ (q : Request) (r : List ℕ) where
   bad-same l = acted-same (badFrame l .todo) (badFrame l .line) (bad-shut l)
 
   judged-same : (y : AnswerRead) (l : Line) → plain-step (judgedStep y l a r) ≡ machine.judgedStep unit (verdict (q .code) y) l q r
-  judged-same (Read answer listed) l = go (eqb (answerCode answer) (q .code))
+  judged-same (Read answer class) l = go (eqb (answerCode answer) (q .code))
     where
       go : (t : Bool)
-          → plain-step (cond t (doneAfter (closed l quiet) 1 (Answered answer listed) (set r 0 0x06)) (badStep l a r))
-          ≡ machine.judgedStep unit (cond t (good (record { answer = answer; listed = listed })) bad) l q r
+          → plain-step (cond t (doneAfter (closed l quiet) 1 (Answered answer class) (set r 0 0x06)) (badStep l a r))
+          ≡ machine.judgedStep unit (cond t (good (record { answer = answer; class = class })) bad) l q r
       go true = refl
       go false = bad-same l
   judged-same (NotRead fault) l = bad-same l
@@ -101,7 +101,7 @@ module _ (q : Request) (r : List ℕ) where
 booked-same : (x : Account) (q : Request) (p : Reply) → bookedBy x (asked-of q) p ≡ machine.bookedBy unit x q (plain-reply p)
 booked-same x q (NotDone why) = refl
 booked-same x q (Done n Nothing) = refl
-booked-same x q (Done n (Answered answer listed)) = refl
+booked-same x q (Done n (Answered answer class)) = refl
 booked-same x q (Done n Refused) = refl
 booked-same x q (Done n Unknown) = refl
 
@@ -188,7 +188,7 @@ lent-same (tick ms r) = refl
 
 pub ending-same : (c : Closing) → ending c ≡ plain-ending (plain-closing c)
 ending-same Nothing = refl
-ending-same (Answered answer listed) = refl
+ending-same (Answered answer class) = refl
 ending-same Refused = refl
 ending-same Unknown = refl
 

@@ -7,6 +7,7 @@ use mathlib.Core.Logic.{⊎-elim}
 use native.Mathlib.Omega.{arith}
 use lib.Dec.{lit≤}
 use lib.ListN.{length}
+use Rattle.error_codes.specs.declared.ErrorClass.{ErrorClass}
 use Rattle.refusals.specs.Rules.{same}
 use Rattle.refusals.specs.Put.{over, laid, refused as not-put}
 use Rattle.refusals.proofs.Rules.{pick, first-judged, none-judged, first-or-none, holds-true}
@@ -52,15 +53,15 @@ says-in f =
     tt (refl, refl) tt (refl, refl) (refl, (refl, (refl, refl))) refl refl
     (λ code a b c d e g h. let l : line code ≡ row 0 none none [] purged = simp (a, b, c, d, e, g, h) in rw l tt)
 
-says : (f : List ℕ) (answer : Answer) (listed : Bool) → readAnswer f ≡ Read answer listed → Says answer f
+says : (f : List ℕ) (answer : Answer) (class : ErrorClass) → readAnswer f ≡ Read answer class → Says answer f
 unfolding readAnswer
-says f answer listed e =
+says f answer class e =
     ⊎-elim
     (λ x.
-    let r : Refused (x .0) ≡ Read answer listed = sym (first-judged Refused (readAs (answerIn f)) (answerFaults f) (x .0) (x .1)) ∙ e in
+    let r : Refused (x .0) ≡ Read answer class = sym (first-judged Refused (readAs (answerIn f)) (answerFaults f) (x .0) (x .1)) ∙ e in
     absurd (let z : _≡_ {A = ℕ} 0 1 = cc in omega arith))
     (λ none.
-    let r : readAs (answerIn f) ≡ Read answer listed = sym (none-judged Refused (readAs (answerIn f)) (answerFaults f) none) ∙ e in
+    let r : readAs (answerIn f) ≡ Read answer class = sym (none-judged Refused (readAs (answerIn f)) (answerFaults f) none) ∙ e in
     let a : answerIn f ≡ answer = cc in
     subst (λ (x : Answer). Says x f) a (says-in f (codeOf f)))
     (first-or-none (answerFaults f))
@@ -68,14 +69,14 @@ says f answer listed e =
 -- ---- a full frame that is the answer
 
 -- it was read, and its code is the one asked
-record Answers (code : ℕ) (x : Good) (y : AnswerRead) : Type 0 where
-  read : y ≡ Read (x .answer) (x .listed)
-  same-code : answerCode (x .answer) ≡ code
+pub record Answers (code : ℕ) (x : Good) (y : AnswerRead) : Type 0 where
+  pub read : y ≡ Read (x .answer) (x .class)
+  pub same-code : answerCode (x .answer) ≡ code
 
-answers-by : (code : ℕ) (x : Good) (y : AnswerRead) → verdict code y ≡ good x → Answers code x y
-answers-by code x (Read answer listed) e =
-    pick (λ (v : Verdict Good). v ≡ good x → Answers code x (Read answer listed)) (same (answerCode answer) code) _ _
-    (λ h g. let a : record { answer = answer; listed = listed } ≡ x = cc in subst (λ (z : Good). Answers code z (Read answer listed)) a (record { read = refl; same-code = h }))
+pub answers-by : (code : ℕ) (x : Good) (y : AnswerRead) → verdict code y ≡ good x → Answers code x y
+answers-by code x (Read answer class) e =
+    pick (λ (v : Verdict Good). v ≡ good x → Answers code x (Read answer class)) (same (answerCode answer) code) _ _
+    (λ h g. let a : record { answer = answer; class = class } ≡ x = cc in subst (λ (z : Good). Answers code z (Read answer class)) a (record { read = refl; same-code = h }))
     (λ n g. absurd (let z : _≡_ {A = ℕ} 0 1 = cc in omega arith))
     e
 answers-by code x (Refused f) e = absurd (let z : _≡_ {A = ℕ} 0 1 = cc in omega arith)
@@ -148,7 +149,7 @@ module _ (a : Account) (q : Request) (sent : sendable (q .code) (q .upper) (q .l
     books-good : (x : Good) (c : Cassette) → verdict (q .code) (readAnswer f) ≡ good x → Books a q f c (cassette (accountAnswered a (asked-of q) (x .answer)) c)
     books-good x c e =
         let g = answers-by (q .code) x (readAnswer f) e in
-        by-answer (x .answer) c (g .same-code) (says f (x .answer) (x .listed) (g .read)) (answer-fits f (x .answer) (x .listed) (g .read))
+        by-answer (x .answer) c (g .same-code) (says f (x .answer) (x .class) (g .read)) (answer-fits f (x .answer) (x .class) (g .read))
 
 -- ---- its frames
 

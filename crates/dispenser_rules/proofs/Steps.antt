@@ -6,6 +6,7 @@ use mathlib.Core.List.{List}
 use mathlib.Core.Logic.{⊎-elim}
 use native.Mathlib.Omega.{arith}
 use lib.ListN.{length, take, set}
+use Rattle.error_codes.specs.declared.ErrorClass.{ErrorClass}
 use Rattle.refusals.specs.Rules.{Rule, under, same, NoneOf}
 use Rattle.refusals.proofs.Rules.{by-cases, cond-true, cond-false, holds-true, fails-false, none-judged, first-or-none}
 use Rattle.dispenser_frame_rules.specs.Answer.{answerCode, readAnswer}
@@ -35,11 +36,11 @@ goes s l store r =
     record { session = record { line = l; asked = s .asked; account = s .account; store = store }; reply = Done 0 NoClosing; room = r }
 
 -- the command is answered: 06h is put
-abbrev pub closes : Session → Answer → Bool → List ℕ → List ℕ → After
-closes s answer listed store r =
+abbrev pub closes : Session → Answer → ErrorClass → List ℕ → List ℕ → After
+closes s answer class store r =
     record {
       session = record { line = closed (s .line) quiet; asked = s .asked; account = accountAnswered (s .account) (s .asked) answer; store = store };
-      reply = Done 1 (Answered answer listed);
+      reply = Done 1 (Answered answer class);
       room = set r 0 0x06;
     }
 
@@ -143,11 +144,11 @@ module _ (s : Session) (x : ℕ) (r : List ℕ) (long : 16 ≤ length r) where
   byte-gathers e g = heard-at Inside e _ (cond-true _ _ (holds-true (under (s .line .gathered + 1) (s .asked .span)) g))
 
   -- the last byte of a good answer with the code asked
-  pub byte-closes : s .line .phase ≡ Inside → (s .line .gathered + 1 < s .asked .span → ⊥) → (answer : Answer) (listed : Bool)
-      → readAnswer (take (s .asked .span) (set (s .store) (s .line .gathered) x)) ≡ Read answer listed → answerCode answer ≡ s .asked .code
-      → sessionByte s x r ≡ closes s answer listed (set (s .store) (s .line .gathered) x) r
+  pub byte-closes : s .line .phase ≡ Inside → (s .line .gathered + 1 < s .asked .span → ⊥) → (answer : Answer) (class : ErrorClass)
+      → readAnswer (take (s .asked .span) (set (s .store) (s .line .gathered) x)) ≡ Read answer class → answerCode answer ≡ s .asked .code
+      → sessionByte s x r ≡ closes s answer class (set (s .store) (s .line .gathered) x) r
   unfolding insideByte judgeStep
-  byte-closes e n answer listed h c =
+  byte-closes e n answer class h c =
       let store = set (s .store) (s .line .gathered) x in
       heard-at Inside e _ (cond-false _ _ (fails-false (under (s .line .gathered + 1) (s .asked .span)) n))
       ∙ ap (λ (y : AnswerRead). left-by s (judgedStep y (waits (s .line) (s .line .left)) (s .asked) r) store) h

@@ -46,7 +46,7 @@ returned (Done n closing) = did n closing
 -- of an answer the history has no more than that it came
 abbrev pub ending : Closing → Left Ending
 ending Nothing = goes-on
-ending (Answered answer listed) = closes answered
+ending (Answered answer class) = closes answered
 ending Refused = closes refused
 ending Unknown = closes unknown
 

@@ -119,8 +119,8 @@ badStep l a r = acted (badFrame l .todo) (badFrame l .line) a r
 
 -- "Good answer with the code asked: send 06h and close as answered."
 abbrev pub judgedStep : AnswerRead → Line → Asked → List ℕ → StepAfter
-judgedStep (Read answer listed) l a r =
-    cond (eqb (answerCode answer) (a .code)) (doneAfter (closed l quiet) 1 (Answered answer listed) (set r 0 0x06)) (badStep l a r)
+judgedStep (Read answer class) l a r =
+    cond (eqb (answerCode answer) (a .code)) (doneAfter (closed l quiet) 1 (Answered answer class) (set r 0 0x06)) (badStep l a r)
 judgedStep (NotRead fault) l a r = badStep l a r
 
 unfoldable pub judgeStep : Line → Asked → List ℕ → List ℕ → StepAfter
@@ -181,7 +181,7 @@ requestStep l a code upper lower r =
 
 abbrev pub closedBy : Account → Asked → Closing → Account
 closedBy a c Nothing = a
-closedBy a c (Answered answer listed) = accountAnswered a c answer
+closedBy a c (Answered answer class) = accountAnswered a c answer
 closedBy a c Refused = accountRefused a c
 closedBy a c Unknown = accountUnknown a c
 

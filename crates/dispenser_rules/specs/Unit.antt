@@ -4,6 +4,7 @@ use mathlib.Core.Bool.{Bool, cond}
 use mathlib.Core.List.{List}
 use lib.Dec.{eqb}
 use lib.ListN.{take, drop}
+use Rattle.error_codes.specs.declared.ErrorClass.{ErrorClass}
 use Rattle.numbers.specs.Decimal.{number}
 use Rattle.ledger.specs.Account.{Dispenser}
 use Rattle.ledger.specs.Told.{Verdict, bad, good, Closing as PlainClosing, none, by-answer, by-refusal, by-doubt}
@@ -65,17 +66,17 @@ abbrev pub cassette : Account → Cassette → Sums
 cassette a Upper = a .upper
 cassette a Lower = a .lower
 
--- a good answer, and whether its error byte is listed
+-- a good answer, and the class of its error byte
 pub record Good : Type 0 where
   pub answer : Answer
-  pub listed : Bool
+  pub class : ErrorClass
 
 abbrev pub asked-of : Request → Asked
 asked-of q = command (q .code) (q .upper) (q .lower)
 
 -- "Good answer with the code asked"; any other full frame is bad
 abbrev pub verdict : ℕ → AnswerRead → Verdict Good
-verdict code (Read answer listed) = cond (eqb (answerCode answer) code) (good (record { answer = answer; listed = listed })) bad
+verdict code (Read answer class) = cond (eqb (answerCode answer) code) (good (record { answer = answer; class = class })) bad
 verdict code (NotRead fault) = bad
 
 abbrev pub unit : Model Request Good Account Cassette
@@ -116,9 +117,9 @@ lent (request code upper lower r) = r
 lent (byte b r) = r
 lent (tick ms r) = r
 
--- which closing each is: one by an answer carries the answer, and whether its error byte is listed
+-- which closing each is: one by an answer carries the answer, and the class of its error byte
 abbrev pub plain-closing : Closing → PlainClosing Good
 plain-closing Nothing = none
-plain-closing (Answered answer listed) = by-answer (record { answer = answer; listed = listed })
+plain-closing (Answered answer class) = by-answer (record { answer = answer; class = class })
 plain-closing Refused = by-refusal
 plain-closing Unknown = by-doubt

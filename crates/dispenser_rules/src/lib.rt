@@ -1,9 +1,12 @@
 // The dispenser session of the Model 2000T, as rules: what it holds, what each call leaves, and what is promised of it. Document 01, "The dispenser session" and
 // "The account".
 mod account;
+mod errors;
 mod session;
 
 pub use account::Account;
+pub use errors::LastError;
+pub use errors::LastErrors;
 pub use session::Asked;
 pub use session::Closing;
 pub use session::Opening;

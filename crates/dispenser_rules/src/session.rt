@@ -3,6 +3,7 @@ ghost use mathlib.Core.Path.{_≡_};
 ghost use Rattle.dispenser_rules.specs.Session.{freshSession};
 use crate::account::Account;
 use dispenser_frame_rules::Answer;
+use error_codes::ErrorClass;
 use exchange_rules::Line;
 use refusals::Declined;
 
@@ -17,8 +18,8 @@ pub struct Asked {
 // How a call closed the open command, if it did.
 pub enum Closing {
     Nothing,
-    // With the answer that was read, and whether its error byte is a published one.
-    Answered(Answer, bool),
+    // With the answer that was read, and the class of its error byte.
+    Answered(Answer, ErrorClass),
     Refused,
     Unknown,
 }

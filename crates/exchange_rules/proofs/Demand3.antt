@@ -14,7 +14,7 @@ use Rattle.ledger.specs.Calls.{Returned, gave, did, told, Host, seen, run, hist
 use Rattle.ledger.specs.Line.{isOpen as isOpenIn, quietTime, quietNeeded, accepted}
 use Rattle.ledger.specs.Account.{Ending, commands, totals}
 use Rattle.ledger.specs.Sent.{Demand3}
-use Rattle.ledger.specs.Told.{ending, Due, dueBy, Answers, Told, AnsweredBy, Carried}
+use Rattle.ledger.specs.Told.{by-answer, ending, Due, dueBy, Answers, Told, AnsweredBy, Carried}
 use Rattle.refusals.specs.declared.Declined.the-variants.{Open, Unquiet, Spent}
 use Rattle.ledger.proofs.Laws.{balanced}
 use Rattle.ledger.proofs.Follows.{OpenIn, At, follows-few}
@@ -127,7 +127,7 @@ module _ {R X A C S T P O Q : Type 0} {U : Model R X A C} {H : Host S T P R O Q 
       told-same (H .deed s t) (H .returned (H .called s t .reply)) (H .called s t .room)
       ∙ (λ i. told ending (M .deeds s t i) (M .answers s t e k i) (M .room s t e k i))
 
-  next-kept : (s : S) (h : History R O Ending) (t : T) → Kept s h → Kept (H .called s t .session) (seen H s t ∷ h)
+  pub next-kept : (s : S) (h : History R O Ending) (t : T) → Kept s h → Kept (H .called s t .session) (seen H s t ∷ h)
   next-kept s h t k =
       record {
         own = M .kept s t (k .own);
@@ -168,10 +168,12 @@ module _ {R X A C S T P O Q : Type 0} {U : Model R X A C} {H : Host S T P R O Q 
       (called-told U K (M .box b) h (x .sound) (x .tracks) (M .means b t)))
 
   -- with what the bytes say from which the sums are read
+  pub call-carries : (s : S) (h : History R O Ending) (t : T) (n : ℕ) (c : Q) (x : X) → Kept s h → H .returned (H .called s t .reply) ≡ did n c
+      → M .says c ≡ by-answer x → AnsweredBy (U .bytes) (discipline U) (seen H s t ∷ h) x
+  call-carries s h t n c x y e g =
+      subst (λ (e : Event R O Ending). AnsweredBy (U .bytes) (discipline U) (e ∷ h) x) (sym (seen-same s t (y .own) (y .sound)))
+      (called-carries U K (M .box s) h (y .sound) (y .tracks) (M .means s t) n x
+      (sym (M .answers s t (y .own) (y .sound)) ∙ ap (saying (M .says)) e ∙ ap (did n) g))
+
   pub carried-by-bytes : (s : S) → Kept s [] → Carried H (M .says) (U .bytes) (discipline U) s
-  carried-by-bytes s k ts t n c x e g =
-      let y = run-kept s [] ts k in
-      let b = run H s ts in
-      subst (λ (e : Event R O Ending). AnsweredBy (U .bytes) (discipline U) (e ∷ historyFrom H s [] ts) x) (sym (seen-same b t (y .own) (y .sound)))
-      (called-carries U K (M .box b) (historyFrom H s [] ts) (y .sound) (y .tracks) (M .means b t) n x
-      (sym (M .answers b t (y .own) (y .sound)) ∙ ap (saying (M .says)) e ∙ ap (did n) g))
+  carried-by-bytes s k ts t n c x e g = call-carries (run H s ts) (historyFrom H s [] ts) t n c x (run-kept s [] ts k) e g

@@ -6,7 +6,6 @@ use mathlib.Core.List.{List, []}
 use native.Mathlib.Omega.{arith}
 use lib.ListN.{length, drop}
 use borrow.Author.Tests.{le-ltb}
-use Rattle.dispenser_rules.specs.declared.account.Account.{Account}
 use Rattle.dispenser_rules.specs.Session.{sessionRequest, sessionByte, sessionTick}
 use Rattle.validator_rules.specs.Session.{sessionRequest as takerRequest, sessionByte as takerByte, sessionTick as takerTick}
 use Rattle.validator_rules.specs.Limits.{types}
@@ -26,6 +25,7 @@ use Rattle.recording.proofs.Starts.{whole-read, whole-says, bad-says}
 use Rattle.grading_rules.specs.Replay.{Desk, freshDesk, payerDeclines, takerDeclines, given, run, told, badFindings, replayed, replayOf}
 use Rattle.grading.specs.Scaffolding.{joined}
 use Rattle.grading_rules.specs.declared.findings.Findings.{Findings}
+use Rattle.grading.specs.declared.desk.Books.{Books}
 use Rattle.grading.specs.declared.desk.Run.{Run}
 
 replayed-also : (d : Desk) (x : Record) (g : Reading) → replayed d (also x g) ≡ replayed (given d x) g
@@ -76,7 +76,7 @@ counts d d′ x e =
 
 -- ---- the parts
 
-pub joins : (r : Run) {a b : Account} {bs cs : List Bills} (store store255 room room255 : List ℕ) → a ≡ b → bs ≡ cs
+pub joins : (r : Run) {a b : Books} {bs cs : List Bills} (store store255 room room255 : List ℕ) → a ≡ b → bs ≡ cs
     → joined r a bs store store255 room room255 ≡ joined r b cs store store255 room room255
 joins r store store255 room room255 e f = ap₂ (λ x y. joined r x y store store255 room room255) e f
 

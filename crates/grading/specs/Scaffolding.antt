@@ -3,13 +3,14 @@
 use Prim.Native.Nat.{ℕ}
 use mathlib.Core.List.{List}
 use Rattle.dispenser_rules.specs.Session.{bookedBy, requestBooked}
-use Rattle.dispenser_rules.specs.declared.account.Account.{Account}
+use Rattle.dispenser_rules.specs.Errors.{erredBy}
 use Rattle.exchange_rules.specs.declared.line.Line.{Line}
 use Rattle.dispenser_rules.specs.declared.session.Asked.{Asked}
 use Rattle.validator_rules.specs.declared.bills.Bills.{Bills}
 use Rattle.validator_rules.specs.declared.line.Line.{Line as TakerLine}
 use Rattle.grading_rules.specs.Replay.{Desk}
 use Rattle.grading.specs.declared.desk.Run.{Run}
+use Rattle.grading.specs.declared.desk.Books.{Books}
 use Rattle.grading.specs.declared.desk.Entry.{Entry}
 use Rattle.grading.specs.declared.desk.Entry.the-variants.{Nothing, Asked as Opened, Heard as Closed}
 
@@ -17,18 +18,19 @@ use Rattle.grading.specs.declared.desk.Entry.the-variants.{Nothing, Aske
 abbrev pub runOf : Line → Asked → TakerLine → ℕ → ℕ → Run
 runOf payer asked taker declined all = record { payer = payer; asked = asked; taker = taker; declined = declined; records = all }
 
--- what a record books in the account
-abbrev pub entered : Account → Asked → Entry → Account
-entered a c Nothing = a
-entered a c (Opened reply) = requestBooked a c reply
-entered a c (Closed reply) = bookedBy a c reply
+-- what a record books
+abbrev pub entered : Books → Asked → Entry → Books
+entered b c Nothing = b
+entered b c (Opened reply) = record { account = requestBooked (b .account) c reply; errors = erredBy (b .errors) reply }
+entered b c (Closed reply) = record { account = bookedBy (b .account) c reply; errors = erredBy (b .errors) reply }
 
--- the parts, joined: what changes with each record, account and bills, the gathering stores, the rooms
-abbrev pub joined : Run → Account → List Bills → List ℕ → List ℕ → List ℕ → List ℕ → Desk
-joined r a bs store store255 room room255 =
+-- the parts, joined: what changes with each record, books and bills, the gathering stores, the rooms
+abbrev pub joined : Run → Books → List Bills → List ℕ → List ℕ → List ℕ → List ℕ → Desk
+joined r b bs store store255 room room255 =
     record {
-      dispenser = record { line = r .payer; asked = r .asked; account = a; store = store };
+      dispenser = record { line = r .payer; asked = r .asked; account = b .account; store = store };
       validator = record { line = r .taker; bills = bs; store = store255 };
+      errors = b .errors;
       room = room;
       room255 = room255;
       declined = r .declined;

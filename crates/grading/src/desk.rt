@@ -1,17 +1,18 @@
 // Replay of a recording through a dispenser session and a validator session, both fresh. The loop owns the parts of both sessions and the
-// rooms that they send into; what a record leaves in the account and among the bills is booked after its step.
+// rooms that they send into; what a record leaves in the books and among the bills is booked after its step.
 ghost use mathlib.Core.Path.{_≡_};
 ghost use mathlib.Core.Bool.{cond, _||_};
 ghost use mathlib.Core.List.{List};
 ghost use Prim.Native.Nat.{ℕ, _+_, _<_};
-ghost use Rattle.dispenser_rules.specs.declared.account.Account.{Account};
 ghost use Rattle.validator_rules.specs.Bills.{bookedBy};
 ghost use Rattle.validator_rules.specs.declared.bills.Bills.{Bills};
 ghost use Rattle.recording.specs.declared.Record.the-variants.{Request, DispenserByte, Tick, ValidatorByte, Command};
 ghost use Rattle.grading_rules.specs.Replay.{payerDeclines, takerDeclines, given, badFindings, replayOf};
 ghost use Rattle.grading.specs.Scaffolding.{runOf, entered, joined};
+ghost use Rattle.grading.specs.declared.desk.Books.{Books};
 use dispenser_rules::Account;
 use dispenser_rules::Asked;
+use dispenser_rules::LastErrors;
 use grading_rules::Ending;
 use grading_rules::Findings;
 use recording::Fault;
@@ -73,7 +74,13 @@ fn assembled(
     }
 }
 
-// What a record books in the account: nothing, what a request answered, or what a byte or a tick did.
+// What is booked of the dispenser: the account, and the last error of each cassette.
+pub(crate) struct Books {
+    pub account: Account,
+    pub errors: LastErrors,
+}
+
+// What a record books: nothing, what a request answered, or what a byte or a tick did.
 pub(crate) enum Entry {
     Nothing,
     Asked(dispenser_rules::Reply),
@@ -133,7 +140,7 @@ fn counted(n: u64, declined: bool) -> u64
 fn requested(run: Run, code: u8, upper: u32, lower: u32, room: &mut [u8; 16]) -> Moved
     requires { ⌜ run .declined < 4_294_967_296 ⌝ }
     requires { ⌜ run .records < 4_294_967_296 ⌝ }
-    ensures { λ r. ⌜ ((a : Account) (bs : List Bills) (store store255 room255 : List ℕ) → joined (r .run) (entered a (r .run .asked) (r .entry)) (bookedBy bs (r .bill)) store store255 (now (room .exit)) room255 ≡ given (joined run a bs store store255 (now (room .entry)) room255) (Request code upper lower)) ⌝ }
+    ensures { λ r. ⌜ ((a : Books) (bs : List Bills) (store store255 room255 : List ℕ) → joined (r .run) (entered a (r .run .asked) (r .entry)) (bookedBy bs (r .bill)) store store255 (now (room .exit)) room255 ≡ given (joined run a bs store store255 (now (room .entry)) room255) (Request code upper lower)) ⌝ }
 {
     let payer = run.payer;
     let asked = run.asked;
@@ -155,7 +162,7 @@ fn requested(run: Run, code: u8, upper: u32, lower: u32, room: &mut [u8; 16]) ->
 fn dispenser_byte(run: Run, store: &mut [u8; 21], b: u8, room: &mut [u8; 16]) -> Moved
     requires { ⌜ run .declined < 4_294_967_296 ⌝ }
     requires { ⌜ run .records < 4_294_967_296 ⌝ }
-    ensures { λ r. ⌜ ((a : Account) (bs : List Bills) (store255 room255 : List ℕ) → joined (r .run) (entered a (r .run .asked) (r .entry)) (bookedBy bs (r .bill)) (now (store .exit)) store255 (now (room .exit)) room255 ≡ given (joined run a bs (now (store .entry)) store255 (now (room .entry)) room255) (DispenserByte b)) ⌝ }
+    ensures { λ r. ⌜ ((a : Books) (bs : List Bills) (store255 room255 : List ℕ) → joined (r .run) (entered a (r .run .asked) (r .entry)) (bookedBy bs (r .bill)) (now (store .exit)) store255 (now (room .exit)) room255 ≡ given (joined run a bs (now (store .entry)) store255 (now (room .entry)) room255) (DispenserByte b)) ⌝ }
 {
     let payer = run.payer;
     let asked = run.asked;
@@ -182,7 +189,7 @@ fn ticked(
 ) -> Moved
     requires { ⌜ run .declined < 4_294_967_296 ⌝ }
     requires { ⌜ run .records < 4_294_967_296 ⌝ }
-    ensures { λ r. ⌜ ((a : Account) (bs : List Bills) (store : List ℕ) → joined (r .run) (entered a (r .run .asked) (r .entry)) (bookedBy bs (r .bill)) store (now (store255 .exit)) (now (room .exit)) (now (room255 .exit)) ≡ given (joined run a bs store (now (store255 .entry)) (now (room .entry)) (now (room255 .entry))) (Tick ms)) ⌝ }
+    ensures { λ r. ⌜ ((a : Books) (bs : List Bills) (store : List ℕ) → joined (r .run) (entered a (r .run .asked) (r .entry)) (bookedBy bs (r .bill)) store (now (store255 .exit)) (now (room .exit)) (now (room255 .exit)) ≡ given (joined run a bs store (now (store255 .entry)) (now (room .entry)) (now (room255 .entry))) (Tick ms)) ⌝ }
 {
     let payer = run.payer;
     let asked = run.asked;
@@ -208,7 +215,7 @@ fn ticked(
 fn validator_byte(run: Run, store255: &mut [u8; 255], b: u8, room255: &mut [u8; 255]) -> Moved
     requires { ⌜ run .declined < 4_294_967_296 ⌝ }
     requires { ⌜ run .records < 4_294_967_296 ⌝ }
-    ensures { λ r. ⌜ ((a : Account) (bs : List Bills) (store room : List ℕ) → joined (r .run) (entered a (r .run .asked) (r .entry)) (bookedBy bs (r .bill)) store (now (store255 .exit)) room (now (room255 .exit)) ≡ given (joined run a bs store (now (store255 .entry)) room (now (room255 .entry))) (ValidatorByte b)) ⌝ }
+    ensures { λ r. ⌜ ((a : Books) (bs : List Bills) (store room : List ℕ) → joined (r .run) (entered a (r .run .asked) (r .entry)) (bookedBy bs (r .bill)) store (now (store255 .exit)) room (now (room255 .exit)) ≡ given (joined run a bs store (now (store255 .entry)) room (now (room255 .entry))) (ValidatorByte b)) ⌝ }
 {
     let payer = run.payer;
     let asked = run.asked;
@@ -230,7 +237,7 @@ fn validator_byte(run: Run, store255: &mut [u8; 255], b: u8, room255: &mut [u8; 
 fn commanded(run: Run, code: u8, room255: &mut [u8; 255]) -> Moved
     requires { ⌜ run .declined < 4_294_967_296 ⌝ }
     requires { ⌜ run .records < 4_294_967_296 ⌝ }
-    ensures { λ r. ⌜ ((a : Account) (bs : List Bills) (store store255 room : List ℕ) → joined (r .run) (entered a (r .run .asked) (r .entry)) (bookedBy bs (r .bill)) store store255 room (now (room255 .exit)) ≡ given (joined run a bs store store255 room (now (room255 .entry))) (Command code)) ⌝ }
+    ensures { λ r. ⌜ ((a : Books) (bs : List Bills) (store store255 room : List ℕ) → joined (r .run) (entered a (r .run .asked) (r .entry)) (bookedBy bs (r .bill)) store store255 room (now (room255 .exit)) ≡ given (joined run a bs store store255 room (now (room255 .entry))) (Command code)) ⌝ }
 {
     let payer = run.payer;
     let asked = run.asked;
@@ -258,7 +265,7 @@ fn step(
 ) -> Moved
     requires { ⌜ run .declined < 4_294_967_296 ⌝ }
     requires { ⌜ run .records < 4_294_967_296 ⌝ }
-    ensures { λ r. ⌜ ((a : Account) (bs : List Bills) → joined (r .run) (entered a (r .run .asked) (r .entry)) (bookedBy bs (r .bill)) (now (store .exit)) (now (store255 .exit)) (now (room .exit)) (now (room255 .exit)) ≡ given (joined run a bs (now (store .entry)) (now (store255 .entry)) (now (room .entry)) (now (room255 .entry))) x) ⌝ }
+    ensures { λ r. ⌜ ((a : Books) (bs : List Bills) → joined (r .run) (entered a (r .run .asked) (r .entry)) (bookedBy bs (r .bill)) (now (store .exit)) (now (store255 .exit)) (now (room .exit)) (now (room255 .exit)) ≡ given (joined run a bs (now (store .entry)) (now (store255 .entry)) (now (room .entry)) (now (room255 .entry))) x) ⌝ }
 {
     match x {
         Record::Request { code, upper, lower } => requested(run, code, upper, lower, room),
@@ -269,14 +276,28 @@ fn step(
     }
 }
 
-// The account after what a record books.
-fn booked(account: Account, asked: Asked, entry: Entry) -> Account
-    ensures { λ r. ⌜ r ≡ entered account asked entry ⌝ }
+// The books after what a record books.
+fn booked(books: Books, asked: Asked, entry: Entry) -> Books
+    ensures { λ r. ⌜ r ≡ entered books asked entry ⌝ }
 {
+    let account = books.account;
+    let were = books.errors;
     match entry {
-        Entry::Nothing => account,
-        Entry::Asked(reply) => dispenser::booked_request(account, asked, reply),
-        Entry::Heard(reply) => dispenser::booked(account, asked, reply),
+        Entry::Nothing => books,
+        Entry::Asked(reply) => {
+            let errors = dispenser::erred(were, reply);
+            Books {
+                account: dispenser::booked_request(account, asked, reply),
+                errors,
+            }
+        }
+        Entry::Heard(reply) => {
+            let errors = dispenser::erred(were, reply);
+            Books {
+                account: dispenser::booked(account, asked, reply),
+                errors,
+            }
+        }
     }
 }
 
@@ -288,6 +309,7 @@ fn bad(why: Fault, at: u32) -> Findings
     let account = fresh.account;
     Findings {
         account,
+        errors: LastErrors::fresh(),
         bills: [Bills(0); 24],
         declined: 0,
         records: 0,
@@ -314,7 +336,9 @@ pub fn replay(recording: &[u8]) -> Findings
         declined: 0,
         records: 0,
     };
-    let mut account = dispenser.account;
+    let account = dispenser.account;
+    let errors = LastErrors::fresh();
+    let mut books = Books { account, errors };
     let mut bills = validator.bills;
     let mut store = dispenser.store;
     let mut store255 = validator.store;
@@ -335,8 +359,8 @@ pub fn replay(recording: &[u8]) -> Findings
                 run = following;
                 let entry = moved.entry;
                 let asked = run.asked;
-                let books = booked(account, asked, entry);
-                account = books;
+                let entered = booked(books, asked, entry);
+                books = entered;
                 let bill = moved.bill;
                 if bill < validator_rules::Session::TYPES {
                     let counts = validator::booked(bills, bill);
@@ -347,8 +371,11 @@ pub fn replay(recording: &[u8]) -> Findings
     }
     let declined = run.declined as u32;
     let records = run.records as u32;
+    let account = books.account;
+    let errors = books.errors;
     Findings {
         account,
+        errors,
         bills,
         declined,
         records,

@@ -1,7 +1,7 @@
 -- The sessions after a replay are those that the recording's calls lead to, so that what holds after any calls at all holds of what is reported.
 -- Assumes nothing.
 use Prim.Native.Nat.{ℕ, _+_}
-use mathlib.Core.Path.{_≡_, refl, ap, _∙_}
+use mathlib.Core.Path.{_≡_, refl, ap, ap₂, _∙_}
 use mathlib.Core.Bool.{Bool, true, false, cond}
 use mathlib.Core.List.{List, [], _∷_}
 use native.Mathlib.Omega.{arith}
@@ -11,7 +11,10 @@ use Rattle.ledger.specs.Calls.{run as ran}
 use Rattle.dispenser_rules.specs.Calls.{host}
 use Rattle.exchange_rules.specs.Machine.{plain}
 use Rattle.dispenser_rules.specs.Unit.{cassette}
+use Rattle.dispenser_rules.specs.Errors.{noErrors, lastOf, errorsFrom}
+use Rattle.dispenser_rules.specs.declared.errors.LastErrors.{LastErrors}
 use Rattle.dispenser_rules.proofs.Demand3.{demand3}
+use Rattle.dispenser_rules.proofs.LastErrors.{errors-by-history}
 use Rattle.dispenser_rules.specs.declared.session.Session.{Session}
 use Rattle.validator_rules.specs.Session.{freshSession as freshTaker}
 use Rattle.validator_rules.specs.Calls.{host as takerHost}
@@ -43,6 +46,16 @@ validator-ran d (DispenserByte b ∷ xs) i = validator-ran (given d (DispenserBy
 validator-ran d (Tick ms ∷ xs) i = validator-ran (given d (Tick ms)) xs (i .1)
 validator-ran d (ValidatorByte b ∷ xs) i = validator-ran (given d (ValidatorByte b)) xs (i .1)
 validator-ran d (Command code ∷ xs) i = validator-ran (given d (Command code)) xs (i .1)
+
+-- the last errors are those after the same calls
+errors-ran : (d : Desk) (xs : List Record) → run d xs .errors ≡ errorsFrom (d .dispenser) (d .errors) (calls d xs)
+unfolding run calls errorsFrom
+errors-ran d [] = refl
+errors-ran d (Request code upper lower ∷ xs) = errors-ran (given d (Request code upper lower)) xs
+errors-ran d (DispenserByte b ∷ xs) = errors-ran (given d (DispenserByte b)) xs
+errors-ran d (Tick ms ∷ xs) = errors-ran (given d (Tick ms)) xs
+errors-ran d (ValidatorByte b ∷ xs) = errors-ran (given d (ValidatorByte b)) xs
+errors-ran d (Command code ∷ xs) = errors-ran (given d (Command code)) xs
 
 -- ---- counts
 
@@ -85,12 +98,19 @@ fresh-parts : (freshDesk .dispenser ≡ freshSession) × (freshDesk .validator �
 unfolding freshDesk
 fresh-parts = (refl, refl)
 
+fresh-errors : freshDesk .errors ≡ noErrors
+unfolding freshDesk
+fresh-errors = refl
+
 fresh-counts : (freshDesk .declined ≡ 0) × (freshDesk .records ≡ 0)
 unfolding freshDesk
 fresh-counts = (refl, refl)
 
 pub session-ran : (xs : List Record) → run freshDesk xs .dispenser ≡ ran host freshSession (calls freshDesk xs)
 session-ran xs = dispenser-ran freshDesk xs ∙ ap (λ (s : Session). ran host s (calls freshDesk xs)) (fresh-parts .0)
+
+errors-told : (xs : List Record) → run freshDesk xs .errors ≡ errorsFrom freshSession noErrors (calls freshDesk xs)
+errors-told xs = errors-ran freshDesk xs ∙ ap₂ (λ (s : Session) (e : LastErrors). errorsFrom s e (calls freshDesk xs)) (fresh-parts .0) fresh-errors
 
 pub taker-ran : (xs : List Record) (i : AllInRange xs) → run freshDesk xs .validator ≡ ran takerHost freshTaker (takerCalls freshDesk xs i)
 taker-ran xs i = validator-ran freshDesk xs i ∙ ap (λ (s : Taker). ran takerHost s (takerCalls freshDesk xs i)) (fresh-parts .1)
@@ -106,6 +126,8 @@ as-recorded s xs h e =
             ∙ ap (λ (w : Session). plain (cassette (w .account) c)) (session-ran xs)
             ∙ demand3 .account (calls freshDesk xs) c;
         balance = demand3 .balance (calls freshDesk xs);
+        errors-told = λ c.
+            ap (λ (f : Findings). lastOf (f .errors) c) g ∙ ap (λ (e : LastErrors). lastOf e c) (errors-told xs) ∙ errors-by-history (calls freshDesk xs) c;
         bills-told = λ y l. rw (g, taker-ran xs i) (kept-by-history .bills (takerCalls freshDesk xs i) y l);
         declined = ap (λ (f : Findings). f .declined) g ∙ declined-ran freshDesk xs ∙ omega (arith, fresh-counts .0);
         all = ap (λ (f : Findings). f .records) g ∙ records-ran freshDesk xs ∙ omega (arith, fresh-counts .1);

@@ -7,10 +7,11 @@ use mathlib.Core.List.{List, [], _∷_, _++_}
 use native.Mathlib.Omega.{arith}
 use lib.ListN.{length, getD}
 use Rattle.numbers.specs.Promises.{AllBytes}
-use Rattle.ledger.specs.Account.{Balanced, sums}
+use Rattle.ledger.specs.Account.{Balanced, commands, sums}
 use Rattle.dispenser_frame_rules.specs.declared.answer.Cassette.{Cassette}
 use Rattle.dispenser_rules.specs.Session.{sessionRequest, sessionByte, sessionTick}
 use Rattle.dispenser_rules.specs.Calls.{Call, request, byte, tick, history}
+use Rattle.dispenser_rules.specs.Errors.{lastOf, lastErrorIn}
 use Rattle.exchange_rules.specs.Machine.{plain}
 use Rattle.dispenser_rules.specs.Unit.{model2000T, cassette}
 use Rattle.validator_rules.specs.Limits.{types}
@@ -72,6 +73,8 @@ pub record Recorded (s : List ℕ) (xs : List Record) (i : AllInRange xs) : Type
   -- the sums are those of demand 3, for the calls that the recording makes, and they balance
   pub account : (c : Cassette) → plain (cassette (replayOf s .account) c) ≡ sums model2000T (history (calls freshDesk xs)) c
   pub balance : (c : Cassette) → Balanced (sums model2000T (history (calls freshDesk xs)) c)
+  -- the last error of each cassette is the class of the error byte of its last good paying or test answer, by the bytes of the history
+  pub errors-told : (c : Cassette) → lastOf (replayOf s .errors) c ≡ lastErrorIn (commands model2000T (history (calls freshDesk xs))) c
   -- the bills are those of the validator's history
   pub bills-told : (y : ℕ) → y < types → getD (replayOf s .bills) y (bills 0) .0 ≡ counted y (takerHistory (takerCalls freshDesk xs i))
   -- declined is the number of records that a session refused, and records counts them all

@@ -5,6 +5,8 @@ use mathlib.Core.Bool.{Bool, true, false, cond, _||_}
 use mathlib.Core.List.{List, [], _∷_}
 use lib.ListN.{replicate}
 use Rattle.dispenser_rules.specs.Account.{freshAccount}
+use Rattle.dispenser_rules.specs.Errors.{noErrors, erredBy}
+use Rattle.dispenser_rules.specs.declared.errors.LastErrors.{LastErrors}
 use Rattle.dispenser_rules.specs.Session.{After, freshSession, sessionRequest, sessionByte, sessionTick}
 use Rattle.dispenser_rules.specs.declared.session.Reply.{Reply}
 use Rattle.dispenser_rules.specs.declared.session.Reply.the-variants.{NotDone, Done}
@@ -23,10 +25,11 @@ use Rattle.recording.specs.declared.Record.the-variants.{Request, DispenserByte
 use Rattle.grading_rules.specs.declared.findings.Ending.the-variants.{Good, Bad}
 use Rattle.grading_rules.specs.declared.findings.Findings.{Findings}
 
--- both sessions, the room that each sends into, as it was left, and the records so far: those declined, and all
+-- both sessions, the last error of each cassette, the room that each session sends into, as it was left, and the records so far: those declined, and all
 pub record Desk : Type 0 where
   pub dispenser : Session
   pub validator : Taker
+  pub errors : LastErrors
   pub room : List ℕ
   pub room255 : List ℕ
   pub declined : ℕ
@@ -35,7 +38,7 @@ pub record Desk : Type 0 where
 -- both fresh, each with the least room that it can send into
 unfoldable pub freshDesk : Desk
 freshDesk =
-    record { dispenser = freshSession; validator = freshTaker; room = replicate leastRoom 0; room255 = replicate takerRoom 0; declined = 0; records = 0 }
+    record { dispenser = freshSession; validator = freshTaker; errors = noErrors; room = replicate leastRoom 0; room255 = replicate takerRoom 0; declined = 0; records = 0 }
 
 -- a session refused
 abbrev pub payerDeclines : Reply → Bool
@@ -47,11 +50,12 @@ takerDeclines (TakerNotDone why) = true
 takerDeclines (TakerDone n c) = false
 
 -- one record more: "Each record refused by a session counts once as declined."
-abbrev pub counting : Bool → Desk → Session → Taker → List ℕ → List ℕ → Desk
-counting refused d s v room room255 =
+abbrev pub counting : Bool → Desk → Session → Taker → LastErrors → List ℕ → List ℕ → Desk
+counting refused d s v e room room255 =
     record {
       dispenser = s;
       validator = v;
+      errors = e;
       room = room;
       room255 = room255;
       declined = cond refused (d .declined + 1) (d .declined);
@@ -60,13 +64,14 @@ counting refused d s v room room255 =
 
 -- what the dispenser session made of it, or the validator session, or both
 abbrev pub byDispenser : Desk → After → Desk
-byDispenser d w = counting (payerDeclines (w .reply)) d (w .session) (d .validator) (w .room) (d .room255)
+byDispenser d w = counting (payerDeclines (w .reply)) d (w .session) (d .validator) (erredBy (d .errors) (w .reply)) (w .room) (d .room255)
 
 abbrev pub byValidator : Desk → TakerAfter → Desk
-byValidator d v = counting (takerDeclines (v .reply)) d (d .dispenser) (v .session) (d .room) (v .room)
+byValidator d v = counting (takerDeclines (v .reply)) d (d .dispenser) (v .session) (d .errors) (d .room) (v .room)
 
 abbrev pub byBoth : Desk → After → TakerAfter → Desk
-byBoth d w v = counting (payerDeclines (w .reply) || takerDeclines (v .reply)) d (w .session) (v .session) (w .room) (v .room)
+byBoth d w v =
+    counting (payerDeclines (w .reply) || takerDeclines (v .reply)) d (w .session) (v .session) (erredBy (d .errors) (w .reply)) (w .room) (v .room)
 
 -- a record, given to the session that it is for: "2 milliseconds (given to both sessions)"; a request to the validator has no data
 abbrev pub given : Desk → Record → Desk
@@ -83,11 +88,11 @@ run d (x ∷ xs) = run (given d x) xs
 
 -- what is left for the report
 abbrev pub told : Desk → Findings
-told d = record { account = d .dispenser .account; bills = d .validator .bills; declined = d .declined; records = d .records; ending = Good }
+told d = record { account = d .dispenser .account; errors = d .errors; bills = d .validator .bills; declined = d .declined; records = d .records; ending = Good }
 
 -- a bad recording leaves its fault, and nothing else
 abbrev pub badFindings : Fault → ℕ → Findings
-badFindings why at = record { account = freshAccount; bills = noBills; declined = 0; records = 0; ending = Bad why at }
+badFindings why at = record { account = freshAccount; errors = noErrors; bills = noBills; declined = 0; records = 0; ending = Bad why at }
 
 -- what a recording says, replayed from a desk on
 abbrev pub replayed : Desk → Reading → Findings

@@ -1,5 +1,6 @@
 // What a replay finds.
 use dispenser_rules::Account;
+use dispenser_rules::LastErrors;
 use recording::Fault;
 use validator_rules::Bills;
 
@@ -12,6 +13,7 @@ pub enum Ending {
 // What a replay leaves for the report.
 pub struct Findings {
     pub account: Account,
+    pub errors: LastErrors,
     pub bills: [Bills; 24],
     pub declined: u32,
     pub records: u32,

@@ -7,10 +7,9 @@ use native.Mathlib.Nat.{mod-eq-of-lt}
 use native.Mathlib.Omega.{arith}
 use lib.Dec.{ltb, eqb}
 use borrow.Author.Tests.{lt-ltb, ne-eqb}
-use Rattle.refusals.specs.Rules.{same}
+use Rattle.refusals.specs.Rules.{same, among}
 use Rattle.refusals.proofs.Rules.{fails-false, by-cases}
 use Rattle.dispenser_frame_rules.specs.Table.{table, codeIn, known, answerFields, answerLength}
-use Rattle.dispenser_frame_rules.specs.Errors.{among}
 use Rattle.xor_frame.proofs.Lengths.{length-none, length-some}
 use Rattle.recording.specs.Record.{inList}
 

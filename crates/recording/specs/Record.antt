@@ -3,10 +3,9 @@ use Prim.Native.Nat.{ℕ, zero, suc, _<_}
 use mathlib.Core.List.{List, [], _∷_, _++_}
 use lib.ListN.{getD}
 use Rattle.refusals.specs.Numbers.{badNumber, cutShort, unknownValue, tooLong}
-use Rattle.refusals.specs.Rules.{Condition, always, never, atMost}
+use Rattle.refusals.specs.Rules.{Condition, always, never, atMost, among}
 use Rattle.numbers.specs.Seven.{numberEnd, groups}
 use Rattle.dispenser_frame_rules.specs.Table.{known}
-use Rattle.dispenser_frame_rules.specs.Errors.{among}
 use Rattle.recording.specs.declared.Fault.{Fault}
 use Rattle.recording.specs.declared.Fault.the-variants.{BadNumber, Cut, Unknown, Long}
 use Rattle.recording.specs.declared.Record.{Record}

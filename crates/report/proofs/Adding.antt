@@ -31,7 +31,7 @@ pub add-all : (before text bytes : List ℕ) (at i : ℕ) → i ≡ length bytes
 add-all before text bytes at i l n e =
     record { size = n; ends = ap (λ (j : ℕ). at + j) l; text = e ∙ ap (λ (y : List ℕ). take at before ++ y) (take-all i bytes (omega (arith, l))) }
 
--- one piece behind the taker
+-- one piece behind the other
 pub adds-then : {before s mid t after : List ℕ} {at e f : ℕ} → Adds before at s mid e → Adds mid e t after f → Adds before at (s ++ t) after f
 adds-then {before} {s} {mid} {t} {after} {at} {e} {f} p q =
     record {

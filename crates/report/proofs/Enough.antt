@@ -15,6 +15,12 @@ use Rattle.dispenser_rules.specs.Calls.{host}
 use Rattle.dispenser_rules.specs.Session.{freshSession}
 use Rattle.exchange_rules.specs.declared.notes.Sums.{Sums}
 use Rattle.dispenser_rules.specs.declared.account.Account.{Account}
+use Rattle.dispenser_rules.specs.declared.errors.LastError.{LastError}
+use Rattle.dispenser_rules.specs.declared.errors.LastError.the-variants.{NoneYet, Of}
+use Rattle.dispenser_rules.specs.declared.errors.LastErrors.{LastErrors}
+use Rattle.error_codes.specs.Errors.{className}
+use Rattle.error_codes.specs.declared.ErrorClass.{ErrorClass}
+use Rattle.error_codes.specs.declared.ErrorClass.the-variants.{Fine, OutOfNotes, NotSeated, Jam, CountInDoubt, OtherListed, Unlisted}
 use Rattle.dispenser_rules.specs.declared.session.Session.{Session}
 use Rattle.dispenser_rules.proofs.Demand3.{never-cut}
 use Rattle.dispenser_frame_rules.specs.declared.answer.Cassette.the-variants.{Upper, Lower}
@@ -34,7 +40,7 @@ use Rattle.recording.proofs.Back.{length-record}
 use Rattle.recording.proofs.Folds.{reading-long}
 use Rattle.report.specs.Text.{bytesOf, longest}
 use Rattle.grading_rules.specs.Replay.{Desk, freshDesk, given, run, replayOf}
-use Rattle.report.specs.Report.{field, line, lines, paidPart, unpaidPart, sumsLine, typeLine, typeLines, goodLines, badLine, reportText, reportOf}
+use Rattle.report.specs.Report.{field, line, lines, paidPart, unpaidPart, sumsLine, lastName, errorLine, typeLine, typeLines, goodLines, badLine, reportText, reportOf}
 use Rattle.grading_rules.specs.Promises.{calls, takerCalls, refuses, refusals}
 use Rattle.report.specs.Promises.{Enough}
 use Rattle.grading_rules.specs.declared.findings.Findings.{Findings}
@@ -101,20 +107,39 @@ types-most (n ∷ ns) y h f =
     (simp length-append
     (omega (arith, type-most y n (omega arith) (f 0 (omega arith)), types-most ns (suc y) (omega arith) (λ k l. f (suc k) (omega arith)))))
 
-five : (a b c d e : List ℕ) → length (a ++ (b ++ (c ++ (d ++ e)))) ≡ length a + (length b + (length c + (length d + length e)))
-five a b c d e = simp length-append
+name-most : (class : ErrorClass) → length (bytesOf (className class)) ≤ 14
+name-most Fine = omega arith
+name-most OutOfNotes = omega arith
+name-most NotSeated = omega arith
+name-most Jam = omega arith
+name-most CountInDoubt = omega arith
+name-most OtherListed = omega arith
+name-most Unlisted = omega arith
 
-good-most : (a : Account) (bs : List Bills) (declined all : ℕ) → Few (a .upper) → Few (a .lower) → length bs ≡ 24
-    → ((k : ℕ) → k < 24 → getD bs k (bills 0) .0 < end32) → declined < end32 → all < end32 → length (lines (goodLines a bs declined all)) ≤ longest
-good-most a bs declined all u l n f d r =
-    rw (lines-more, lines-more, lines-more, lines-append, lines-one)
+last-most : (last : LastError) → length (bytesOf (lastName last)) ≤ 14
+last-most NoneYet = omega arith
+last-most (Of class) = name-most class
+
+error-most : (name : List ℕ) (last : LastError) → length name ≡ 17 → length (line (errorLine name last)) ≤ 32
+error-most name last h = simp length-append (omega (arith, h, last-most last))
+
+seven : (a b c d e f g : List ℕ)
+    → length (a ++ (b ++ (c ++ (d ++ (e ++ (f ++ g)))))) ≡ length a + (length b + (length c + (length d + (length e + (length f + length g)))))
+seven a b c d e f g = simp length-append
+
+good-most : (a : Account) (es : LastErrors) (bs : List Bills) (declined all : ℕ) → Few (a .upper) → Few (a .lower) → length bs ≡ 24
+    → ((k : ℕ) → k < 24 → getD bs k (bills 0) .0 < end32) → declined < end32 → all < end32 → length (lines (goodLines a es bs declined all)) ≤ longest
+good-most a es bs declined all u l n f d r =
+    rw (lines-more, lines-more, lines-more, lines-more, lines-more, lines-append, lines-one)
     (let p = sums-most (bytesOf "upper") (a .upper) (omega arith) u in
     let q = sums-most (bytesOf "lower") (a .lower) (omega arith) l in
     let t = types-most bs 0 (omega (arith, n)) (λ k h. f k (omega (arith, n))) in
     let x : length (line (field "declined " declined)) ≤ 20 = simp length-append (omega (arith, ten declined d)) in
     let y : length (line (field "records " all)) ≤ 19 = simp length-append (omega (arith, ten all r)) in
-    let e = five (line (sumsLine (bytesOf "upper") (a .upper))) (line (sumsLine (bytesOf "lower") (a .lower))) (line (field "declined " declined)) (lines (typeLines 0 bs)) (line (field "records " all)) in
-    omega (arith, p, q, t, x, y, e, n))
+    let v = error-most (bytesOf "upper last error ") (es .upper) refl in
+    let w = error-most (bytesOf "lower last error ") (es .lower) refl in
+    let e = seven (line (sumsLine (bytesOf "upper") (a .upper))) (line (sumsLine (bytesOf "lower") (a .lower))) (line (errorLine (bytesOf "upper last error ") (es .upper))) (line (errorLine (bytesOf "lower last error ") (es .lower))) (line (field "declined " declined)) (lines (typeLines 0 bs)) (line (field "records " all)) in
+    omega (arith, p, q, t, v, w, x, y, e, n))
 
 small-number : (why : Fault) → faultNumber why < end32
 small-number BadNumber = omega arith
@@ -182,7 +207,7 @@ good-enough s xs h e =
     let b : (k : ℕ) → k < 24 → getD (run freshDesk xs .validator .bills) k (bills 0) .0 < end32
     = λ k l. omega (arith, sym (ap (λ (f : Findings). getD (f .bills) k (bills 0) .0) (good-replay s xs e)) ∙ r .bills-told k l, kept-by-history .few (takerCalls freshDesk xs (p .0)) k l) in
     rw (good-replay s xs e)
-    (good-most (run freshDesk xs .dispenser .account) (run freshDesk xs .validator .bills) (run freshDesk xs .declined) (run freshDesk xs .records)
+    (good-most (run freshDesk xs .dispenser .account) (run freshDesk xs .errors) (run freshDesk xs .validator .bills) (run freshDesk xs .declined) (run freshDesk xs .records)
     (subst (λ (y : Session). Few (y .account .upper)) (sym c) (bounded-few (ran host freshSession (calls freshDesk xs) .account .upper) (cut Upper)))
     (subst (λ (y : Session). Few (y .account .lower)) (sym c) (bounded-few (ran host freshSession (calls freshDesk xs) .account .lower) (cut Lower)))
     (bills-ran freshDesk xs ∙ fresh-bills)

@@ -1,4 +1,4 @@
--- The lines of a report, one behind the taker. Assumes nothing.
+-- The lines of a report, one behind the other. Assumes nothing.
 use Prim.Native.Nat.{ℕ, suc, _+_, _≤_, _<_}
 use mathlib.Core.Path.{_≡_, refl, sym, ap, _∙_, subst}
 use mathlib.Core.List.{List, [], _∷_, _++_, append-assoc, append-nil}
@@ -101,22 +101,20 @@ pub types-all : {before after : List ℕ} {at e : ℕ} (ns : List Bills) (y : �
     → Adds before at (lines (typeLines 0 ns)) after e
 types-all {before} {after} {at} {e} ns y h p = subst (λ (l : List Bills). Adds before at (lines (typeLines 0 l)) after e) (take-all y ns h) p
 
--- the lines of a good recording's report, and that of a bad one
-pub good-added : {before m n o p after : List ℕ} {e f g h k : ℕ} (u l d : List ℕ) (ts : List (List ℕ)) (r : List ℕ) → Adds before 0 (line u) m e
-    → Adds m e (line l) n f → Adds n f (line d) o g → Adds o g (lines ts) p h → Adds p h (line r) after k
-    → Adds before 0 (lines (u ∷ l ∷ d ∷ (ts ++ (r ∷ [])))) after k
-good-added {before} {m} {n} {o} {p} {after} {e} {f} {g} {h} {k} u l d ts r a b c t w =
-    subst (λ (x : List ℕ). Adds before 0 x after k)
-    (ap (λ (x : List ℕ). line u ++ (line l ++ (line d ++ (lines ts ++ x)))) (sym (lines-one r))
-    ∙ ap (λ (x : List ℕ). line u ++ (line l ++ (line d ++ x))) (sym (lines-append ts (r ∷ [])))
-    ∙ ap (λ (x : List ℕ). line u ++ (line l ++ x)) (sym (lines-more d (ts ++ (r ∷ []))))
-    ∙ ap (λ (x : List ℕ). line u ++ x) (sym (lines-more l (d ∷ (ts ++ (r ∷ [])))))
-    ∙ sym (lines-more u (l ∷ d ∷ (ts ++ (r ∷ [])))))
-    (adds-then a (adds-then b (adds-then c (adds-then t w))))
+-- one line before others
+pub first-added : {before m after : List ℕ} {at e k : ℕ} (l : List ℕ) (ls : List (List ℕ)) → Adds before at (line l) m e → Adds m e (lines ls) after k
+    → Adds before at (lines (l ∷ ls)) after k
+first-added {before} {m} {after} {at} {e} {k} l ls p q = subst (λ (x : List ℕ). Adds before at x after k) (sym (lines-more l ls)) (adds-then p q)
 
-pub bad-added : {before m after : List ℕ} {e f : ℕ} (a b : List ℕ) → Adds before 0 a m e → Adds m e (line b) after f → Adds before 0 (line (a ++ b)) after f
-bad-added {before} {m} {after} {e} {f} a b p q =
-    subst (λ (x : List ℕ). Adds before 0 x after f) (sym (append-assoc a b (0x0A ∷ []))) (adds-then p q)
+-- lines behind lines
+pub lines-added : {before m after : List ℕ} {at e k : ℕ} (ls ms : List (List ℕ)) → Adds before at (lines ls) m e → Adds m e (lines ms) after k
+    → Adds before at (lines (ls ++ ms)) after k
+lines-added {before} {m} {after} {at} {e} {k} ls ms p q = subst (λ (x : List ℕ). Adds before at x after k) (sym (lines-append ls ms)) (adds-then p q)
 
-pub one-added : {before after : List ℕ} {f : ℕ} (l : List ℕ) → Adds before 0 (line l) after f → Adds before 0 (lines (l ∷ [])) after f
-one-added {before} {after} {f} l p = subst (λ (x : List ℕ). Adds before 0 x after f) (sym (lines-one l)) p
+-- a line in two pieces
+pub line-added : {before m after : List ℕ} {at e f : ℕ} (a b : List ℕ) → Adds before at a m e → Adds m e (line b) after f → Adds before at (line (a ++ b)) after f
+line-added {before} {m} {after} {at} {e} {f} a b p q =
+    subst (λ (x : List ℕ). Adds before at x after f) (sym (append-assoc a b (0x0A ∷ []))) (adds-then p q)
+
+pub one-added : {before after : List ℕ} {at f : ℕ} (l : List ℕ) → Adds before at (line l) after f → Adds before at (lines (l ∷ [])) after f
+one-added {before} {after} {at} {f} l p = subst (λ (x : List ℕ). Adds before at x after f) (sym (lines-one l)) p

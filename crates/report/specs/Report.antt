@@ -7,6 +7,10 @@ use lib.Dec.{eqb}
 use Rattle.numbers.specs.Decimal.{decimal}
 use Rattle.exchange_rules.specs.declared.notes.Sums.{Sums}
 use Rattle.dispenser_rules.specs.declared.account.Account.{Account}
+use Rattle.dispenser_rules.specs.declared.errors.LastError.{LastError}
+use Rattle.dispenser_rules.specs.declared.errors.LastError.the-variants.{NoneYet, Of}
+use Rattle.dispenser_rules.specs.declared.errors.LastErrors.{LastErrors}
+use Rattle.error_codes.specs.Errors.{className}
 use Rattle.recording.specs.Record.{faultNumber}
 use Rattle.recording.specs.declared.Fault.{Fault}
 use Rattle.report.specs.Text.{bytesOf}
@@ -41,6 +45,14 @@ unpaidPart s =
 abbrev pub sumsLine : List ℕ → Sums → List ℕ
 sumsLine name s = paidPart name s ++ unpaidPart s
 
+-- "upper last error NAME"; "none" before any (02, Q-5)
+abbrev pub lastName : LastError → String
+lastName NoneYet = "none"
+lastName (Of class) = className class
+
+abbrev pub errorLine : List ℕ → LastError → List ℕ
+errorLine name last = name ++ bytesOf (lastName last)
+
 -- "A line "type 3 bills 2" per type seen": a type of which there is a bill
 unfoldable pub typeLine : ℕ → Bills → List (List ℕ)
 typeLine y n = cond (eqb (n .0) 0) [] ((field "type " y ++ field " bills " (n .0)) ∷ [])
@@ -50,18 +62,22 @@ unfoldable pub typeLines : ℕ → List Bills → List (List ℕ)
 typeLines y [] = []
 typeLines y (n ∷ ns) = typeLine y n ++ typeLines (suc y) ns
 
+-- "after the two cassette lines the report adds "upper last error NAME" and "lower last error NAME"" (02, Q-5)
+abbrev pub cassetteLines : Account → LastErrors → List (List ℕ)
+cassetteLines a es =
+    sumsLine (bytesOf "upper") (a .upper) ∷ sumsLine (bytesOf "lower") (a .lower)
+    ∷ errorLine (bytesOf "upper last error ") (es .upper) ∷ errorLine (bytesOf "lower last error ") (es .lower) ∷ []
+
 -- the lines of a good recording's report: those of the types stand between "declined" and "records"
-abbrev pub goodLines : Account → List Bills → ℕ → ℕ → List (List ℕ)
-goodLines a bs declined records =
-    sumsLine (bytesOf "upper") (a .upper) ∷ sumsLine (bytesOf "lower") (a .lower) ∷ field "declined " declined
-    ∷ (typeLines 0 bs ++ (field "records " records ∷ []))
+abbrev pub goodLines : Account → LastErrors → List Bills → ℕ → ℕ → List (List ℕ)
+goodLines a es bs declined records = cassetteLines a es ++ (field "declined " declined ∷ (typeLines 0 bs ++ (field "records " records ∷ [])))
 
 -- "A bad recording writes only "bad 22 at 7", with its number and the record's offset."
 abbrev pub badLine : Fault → ℕ → List ℕ
 badLine why at = field "bad " (faultNumber why) ++ field " at " at
 
 abbrev pub linesIn : Ending → Findings → List (List ℕ)
-linesIn Good f = goodLines (f .account) (f .bills) (f .declined) (f .records)
+linesIn Good f = goodLines (f .account) (f .errors) (f .bills) (f .declined) (f .records)
 linesIn (Bad why at) f = badLine why at ∷ []
 
 -- the report of what a replay left

@@ -6,10 +6,14 @@ ghost use Prim.Native.Nat.{_+_, _≤_};
 ghost use lib.ListN.{length};
 ghost use Rattle.numbers.specs.Decimal.{decimal};
 ghost use Rattle.refusals.specs.Put.{written, writing};
-ghost use Rattle.report.specs.Text.{longest};
+ghost use Rattle.error_codes.specs.Errors.{className};
+ghost use Rattle.report.specs.Text.{longest, bytesOf};
 ghost use Rattle.report.specs.Scaffolding.{Adds};
-ghost use Rattle.report.specs.Report.{line, lines, paidPart, unpaidPart, sumsLine, typeLine, typeLines, goodLines, badLine, reportText, reportOf};
+ghost use Rattle.report.specs.Report.{line, lines, paidPart, unpaidPart, sumsLine, lastName, errorLine, typeLine, typeLines, cassetteLines, goodLines, badLine, reportText, reportOf};
 use dispenser_rules::Account;
+use dispenser_rules::LastError;
+use dispenser_rules::LastErrors;
+use error_codes::ErrorClass;
 use exchange_rules::Sums;
 use grading::replay;
 use grading_rules::Ending;
@@ -20,8 +24,8 @@ use refusals::Put;
 use refusals::Refusal;
 use validator_rules::Bills;
 
-// No report is longer: two lines of 146 bytes for the cassettes, 20 for those declined, 25 for each of 24 types, and 19 for the records.
-pub const LONGEST: usize = 931;
+// No report is longer: two lines of 146 bytes for the cassettes, two of 32 for their last errors, 20 for those declined, 25 for each of 24 types, and 19 for the records.
+pub const LONGEST: usize = 995;
 
 // Adds bytes behind those that stand before a place, and says where they end.
 fn put(bytes: &[u8], text: &mut [u8], at: usize) -> usize
@@ -115,6 +119,46 @@ fn put_line(word: &[u8], n: u32, text: &mut [u8], at: usize) -> usize
     put(b"\n", text, a)
 }
 
+// Adds the name of a class.
+fn put_class(class: ErrorClass, text: &mut [u8], at: usize) -> usize
+    requires { ⌜ at + 14 ≤ length (now text) ⌝ }
+    ensures { λ r. ⌜ Adds (now (text .entry)) at (bytesOf (className class)) (now (text .exit)) r ⌝ }
+    ensures { λ r. ⌜ r ≤ at + 14 ⌝ }
+{
+    match class {
+        ErrorClass::Fine => put(b"fine", text, at),
+        ErrorClass::OutOfNotes => put(b"out of notes", text, at),
+        ErrorClass::NotSeated => put(b"not seated", text, at),
+        ErrorClass::Jam => put(b"jam", text, at),
+        ErrorClass::CountInDoubt => put(b"count in doubt", text, at),
+        ErrorClass::OtherListed => put(b"other listed", text, at),
+        ErrorClass::Unlisted => put(b"unlisted", text, at),
+    }
+}
+
+// Adds the name of a last error.
+fn put_name(last: LastError, text: &mut [u8], at: usize) -> usize
+    requires { ⌜ at + 14 ≤ length (now text) ⌝ }
+    ensures { λ r. ⌜ Adds (now (text .entry)) at (bytesOf (lastName last)) (now (text .exit)) r ⌝ }
+    ensures { λ r. ⌜ r ≤ at + 14 ⌝ }
+{
+    match last {
+        LastError::NoneYet => put(b"none", text, at),
+        LastError::Of(class) => put_class(class, text, at),
+    }
+}
+
+// Adds the line of a cassette's last error.
+fn put_error(name: &[u8], last: LastError, text: &mut [u8], at: usize) -> usize
+    requires { ⌜ at + length (now name) + 15 ≤ length (now text) ⌝ }
+    ensures { λ r. ⌜ Adds (now (text .entry)) at (line (errorLine (now (name .entry)) last)) (now (text .exit)) r ⌝ }
+    ensures { λ r. ⌜ r ≤ at + length (now (name .entry)) + 15 ⌝ }
+{
+    let a = put(name, text, at);
+    let b = put_name(last, text, a);
+    put(b"\n", text, b)
+}
+
 // Adds the line of a type, if there is a bill of it.
 fn put_type(y: u32, n: Bills, text: &mut [u8], at: usize) -> usize
     requires { ⌜ at + 25 ≤ length (now text) ⌝ }
@@ -146,25 +190,39 @@ fn put_types(bills: [Bills; 24], text: &mut [u8], at: usize) -> usize
     end
 }
 
+// Adds the lines of the cassettes.
+fn put_cassettes(account: Account, errors: LastErrors, text: &mut [u8]) -> usize
+    requires { ⌜ longest ≤ length (now text) ⌝ }
+    ensures { λ r. ⌜ Adds (now (text .entry)) 0 (lines (cassetteLines account errors)) (now (text .exit)) r ⌝ }
+    ensures { λ r. ⌜ r ≤ 356 ⌝ }
+{
+    let upper = account.upper;
+    let lower = account.lower;
+    let upper_error = errors.upper;
+    let lower_error = errors.lower;
+    let a = put_sums(b"upper", upper, text, 0);
+    let b = put_sums(b"lower", lower, text, a);
+    let c = put_error(b"upper last error ", upper_error, text, b);
+    put_error(b"lower last error ", lower_error, text, c)
+}
+
 // Adds the report of a good recording.
 fn put_good(
     account: Account,
+    errors: LastErrors,
     bills: [Bills; 24],
     declined: u32,
     records: u32,
     text: &mut [u8],
 ) -> usize
     requires { ⌜ longest ≤ length (now text) ⌝ }
-    ensures { λ r. ⌜ Adds (now (text .entry)) 0 (lines (goodLines account bills declined records)) (now (text .exit)) r ⌝ }
+    ensures { λ r. ⌜ Adds (now (text .entry)) 0 (lines (goodLines account errors bills declined records)) (now (text .exit)) r ⌝ }
     ensures { λ r. ⌜ r ≤ longest ⌝ }
 {
-    let upper = account.upper;
-    let lower = account.lower;
-    let a = put_sums(b"upper", upper, text, 0);
-    let b = put_sums(b"lower", lower, text, a);
-    let c = put_line(b"declined ", declined, text, b);
-    let d = put_types(bills, text, c);
-    put_line(b"records ", records, text, d)
+    let a = put_cassettes(account, errors, text);
+    let b = put_line(b"declined ", declined, text, a);
+    let c = put_types(bills, text, b);
+    put_line(b"records ", records, text, c)
 }
 
 // Adds the report of a bad recording, its one line.
@@ -184,10 +242,11 @@ fn put_report(f: Findings, text: &mut [u8]) -> usize
     ensures { λ r. ⌜ r ≤ longest ⌝ }
 {
     let account = f.account;
+    let errors = f.errors;
     let bills = f.bills;
     let ending = f.ending;
     match ending {
-        Ending::Good => put_good(account, bills, f.declined, f.records, text),
+        Ending::Good => put_good(account, errors, bills, f.declined, f.records, text),
         Ending::Bad(why, at) => put_bad(why, at, text),
     }
 }

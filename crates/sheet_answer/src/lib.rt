@@ -1,5 +1,6 @@
 // A dispenser's answer, printed with its fields in 01's order. The bench programs share it.
 use dispenser_frame_rules::Answer;
+use error_codes::ErrorClass;
 
 // An answer's code and the values of its fields.
 pub fn print_answer(answer: Answer) {
@@ -63,12 +64,16 @@ pub fn print_answer(answer: Answer) {
     }
 }
 
-// What a reader hands back: the answer, and whether its error is a listed one.
-pub fn print_read(answer: Answer, listed: bool) {
+// What a reader hands back: the answer, and the class of its error by its name in 02, Q-5.
+pub fn print_read(answer: Answer, class: ErrorClass) {
     print_answer(answer);
-    if listed {
-        sheet::print_text(b", error listed\n");
-    } else {
-        sheet::print_text(b", error unlisted\n");
+    match class {
+        ErrorClass::Fine => sheet::print_text(b", error fine\n"),
+        ErrorClass::OutOfNotes => sheet::print_text(b", error out of notes\n"),
+        ErrorClass::NotSeated => sheet::print_text(b", error not seated\n"),
+        ErrorClass::Jam => sheet::print_text(b", error jam\n"),
+        ErrorClass::CountInDoubt => sheet::print_text(b", error count in doubt\n"),
+        ErrorClass::OtherListed => sheet::print_text(b", error other listed\n"),
+        ErrorClass::Unlisted => sheet::print_text(b", error unlisted\n"),
     }
 }

@@ -1,5 +1,5 @@
 -- `recording::is_command` meets its contract. Assumes nothing.
-use Rattle.dispenser_frame_rules.specs.Errors.{among}
+use Rattle.refusals.specs.Rules.{among}
 use Rattle.recording.specs.Record.{inList}
 use Rattle.recording.proofs.Lists.{last-listed}
 use Rattle.recording.proofs.is_command.Statement.{statement}

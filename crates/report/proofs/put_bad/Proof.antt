@@ -1,5 +1,5 @@
 -- `report::put_bad` meets its contract. Assumes nothing.
-use Rattle.report.proofs.Lines.{bad-added}
+use Rattle.report.proofs.Lines.{line-added}
 use borrow.Author.Needs.{needs}
 use native.Mathlib.Omega.{arith}
 use Rattle.report.proofs.put_bad.Statement.{statement}
@@ -30,7 +30,7 @@ returns : tie.Need-returns
 returns c =
     let a = c .before .before .before .before .before .before .before .put-field .ensures in
     let r = c .before .before .put-line .ensures in
-    simp (← c .before .before .before .before .before .before .before .before .before .number .ensures) (bad-added _ _ (a .0) (r .0), omega (arith, a .1, r .1))
+    simp (← c .before .before .before .before .before .before .before .before .before .number .ensures) (line-added _ _ (a .0) (r .0), omega (arith, a .1, r .1))
 
 pub put-bad-spec : {M : Type 1} → statement M
 put-bad-spec =

@@ -1,21 +1,12 @@
 -- `report::put_good` meets its contract. Assumes nothing.
-use Rattle.report.proofs.Lines.{good-added}
-use borrow.Author.Needs.{needs}
+use Rattle.report.proofs.Lines.{lines-added, first-added, one-added}
 use native.Mathlib.Omega.{arith}
+use borrow.Author.Needs.{needs}
 use Rattle.report.proofs.put_good.Statement.{statement}
 use Rattle.report.proofs.put_good.Tie as tie
 
-slice-aggregate-put-sums : tie.Need-slice-aggregate-put-sums
-slice-aggregate-put-sums c = search needs
-
-put-sums-requires : tie.Need-put-sums-requires
-put-sums-requires c κs = search needs
-
-slice-aggregate-put-sums-2 : tie.Need-slice-aggregate-put-sums-2
-slice-aggregate-put-sums-2 c = search needs
-
-put-sums-requires-2 : tie.Need-put-sums-requires-2
-put-sums-requires-2 c κs = search needs
+put-cassettes-requires : tie.Need-put-cassettes-requires
+put-cassettes-requires c κs = search needs
 
 slice-aggregate-put-line : tie.Need-slice-aggregate-put-line
 slice-aggregate-put-line c = search needs
@@ -37,21 +28,17 @@ same-length c = search needs
 
 returns : tie.Need-returns
 returns c =
-    let u = c .before .before .before .before .before .before .before .before .before .before .before .before .before .before .before .before .before .before .before .before .before .put-sums .ensures in
-    let l = c .before .before .before .before .before .before .before .before .before .before .before .before .before .before .before .before .put-sums2 .ensures in
+    let cs = c .before .before .before .before .before .before .before .before .before .before .before .before .before .before .before .before .put-cassettes .ensures in
     let d = c .before .before .before .before .before .before .before .before .before .before .before .put-line .ensures in
     let t = c .before .before .before .before .before .before .before .put-types .ensures in
     let r = c .before .before .put-line2 .ensures in
-    (good-added _ _ _ _ _ (u .0) (l .0) (d .0) (t .0) (r .0), omega (arith, u .1, l .1, d .1, t .1, r .1))
+    (lines-added _ _ (cs .0) (first-added _ _ (d .0) (lines-added _ _ (t .0) (one-added _ (r .0)))), omega (arith, cs .1, d .1, t .1, r .1))
 
 pub put-good-spec : {M : Type 1} → statement M
 put-good-spec =
     tie.close
     (tie.spec
-    slice-aggregate-put-sums
-    put-sums-requires
-    slice-aggregate-put-sums-2
-    put-sums-requires-2
+    put-cassettes-requires
     slice-aggregate-put-line
     put-line-requires
     put-types-requires

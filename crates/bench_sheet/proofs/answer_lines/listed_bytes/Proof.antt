@@ -15,11 +15,14 @@ abbrev μ-loop : tie.MeasureT-loop
 loop-holds : tie.Need-loop-holds Inv-loop μ-loop
 loop-holds c = search needs
 
-cast-is-listed : tie.Need-cast-is-listed Inv-loop μ-loop
-cast-is-listed c = search needs
+cast-class-of : tie.Need-cast-class-of Inv-loop μ-loop
+cast-class-of c = search needs
 
-is-listed-requires : tie.Need-is-listed-requires Inv-loop μ-loop
-is-listed-requires c κs = search needs
+class-of-requires : tie.Need-class-of-requires Inv-loop μ-loop
+class-of-requires c κs = search needs
+
+enum-told : tie.Need-enum-told Inv-loop μ-loop
+enum-told c = search needs
 
 add-n : tie.Need-add-n Inv-loop μ-loop
 add-n c = search needs
@@ -31,7 +34,7 @@ loop-less : tie.Need-loop-less Inv-loop μ-loop
 loop-less c = search needs
 
 loop-again : tie.Need-loop-again Inv-loop μ-loop
-loop-again c = ⊎-elim (λ w. omega arith) (λ w. omega arith) (c .if1 .came)
+loop-again c = ⊎-elim (λ w. omega arith) (λ w. omega arith) (c .match .came)
 
 returns : tie.Need-returns Inv-loop μ-loop
 returns c = search needs
@@ -43,8 +46,9 @@ listed-bytes-spec =
     Inv-loop
     μ-loop
     loop-holds
-    cast-is-listed
-    is-listed-requires
+    cast-class-of
+    class-of-requires
+    enum-told
     add-n
     add-b
     loop-less

@@ -15,12 +15,12 @@ use Rattle.grading.proofs.desk.replay.Statement.{statement}
 use Rattle.grading.proofs.desk.replay.Tie as tie
 
 abbrev Inv-loop : tie.InvT-loop
-Inv-loop recording run₀ account₀ bills₀ store₀ second₀ room₀ wide₀ i₀ run account bills store store255 room room255 i =
+Inv-loop recording run₀ books₀ bills₀ store₀ second₀ room₀ wide₀ i₀ run books bills store store255 room room255 i =
     (i ≤ length recording) × (length recording ≤ 65_536) × (run .declined ≤ run .records) × (run .records ≤ i)
-    × (replayed (joined run account bills store store255 room room255) (readingFrom freshReader i (drop i recording)) ≡ replayOf recording)
+    × (replayed (joined run books bills store store255 room room255) (readingFrom freshReader i (drop i recording)) ≡ replayOf recording)
 
 abbrev μ-loop : tie.MeasureT-loop
-μ-loop recording run₀ account₀ bills₀ store₀ second₀ room₀ wide₀ i₀ run account bills store store255 room room255 i = length recording - i
+μ-loop recording run₀ books₀ bills₀ store₀ second₀ room₀ wide₀ i₀ run books bills store store255 room room255 i = length recording - i
 
 bad-requires : tie.Need-bad-requires Inv-loop μ-loop
 bad-requires c κs = search needs
@@ -34,15 +34,18 @@ fresh-requires c κs = search needs
 fresh-requires-2 : tie.Need-fresh-requires-2 Inv-loop μ-loop
 fresh-requires-2 c κs = search needs
 
+fresh-requires-3 : tie.Need-fresh-requires-3 Inv-loop μ-loop
+fresh-requires-3 c κs = search needs
+
 loop-holds : tie.Need-loop-holds Inv-loop μ-loop
 unfolding freshDesk freshSession freshTaker
 loop-holds c =
-    let h = c .before .before .before .before .before .before .before .before .before .if1 .left in (
+    let h = c .before .before .before .before .before .before .before .before .before .before .if1 .left in (
       search needs,
       omega (arith, h),
       search needs,
       search needs,
-      simp (c .before .before .before .before .before .before .before .before .fresh .ensures, c .before .before .before .before .before .before .before .fresh2 .ensures) (short _ (omega (arith, h))),
+      simp (c .before .before .before .before .before .before .before .before .before .fresh .ensures, c .before .before .before .before .before .before .before .before .fresh2 .ensures, c .before .before .before .fresh3 .ensures) (short _ (omega (arith, h))),
     )
 
 record-at-requires : tie.Need-record-at-requires Inv-loop μ-loop
@@ -91,8 +94,8 @@ loop-again c =
     let turn = c .before .before .before .before .before .before .before .before .before .before .before .before .before .before .before .loop in
     let inv = turn .inv in
     let h = c .before .before .before .before .before .before .before .before .before .before .before .before .before .before .loop-test .taken in
-    let g = c .before .before .before .before .before .step .ensures (turn .account) (turn .bills) in
-    let d = joined (turn .run) (turn .account) (turn .bills) (turn .store) (turn .store255) (turn .room) (turn .room255) in
+    let g = c .before .before .before .before .before .step .ensures (turn .books) (turn .bills) in
+    let d = joined (turn .run) (turn .books) (turn .bills) (turn .store) (turn .store255) (turn .room) (turn .room255) in
     let x = c .before .before .before .before .before .before .before .before .before .before .before .found2 .given .0 .0 in
     let size = c .before .before .before .before .before .before .before .before .before .before .before .found2 .given .0 .1 .0 in
     let told = c .before .before .before .before .before .before .before .before .before .before .before .found2 .given .1 in
@@ -116,8 +119,8 @@ loop-again-2 c =
     let turn = c .before .before .before .before .before .before .before .before .before .before .before .before .before .before .loop in
     let inv = turn .inv in
     let h = c .before .before .before .before .before .before .before .before .before .before .before .before .before .loop-test .taken in
-    let g = c .before .before .before .before .step .ensures (turn .account) (turn .bills) in
-    let d = joined (turn .run) (turn .account) (turn .bills) (turn .store) (turn .store255) (turn .room) (turn .room255) in
+    let g = c .before .before .before .before .step .ensures (turn .books) (turn .bills) in
+    let d = joined (turn .run) (turn .books) (turn .bills) (turn .store) (turn .store255) (turn .room) (turn .room255) in
     let x = c .before .before .before .before .before .before .before .before .before .before .found2 .given .0 .0 in
     let size = c .before .before .before .before .before .before .before .before .before .before .found2 .given .0 .1 .0 in
     let told = c .before .before .before .before .before .before .before .before .before .before .found2 .given .1 in
@@ -138,8 +141,8 @@ cast-records c = let end = c .before .before .before .loop in record { fits = om
 
 returns-3 : tie.Need-returns-3 Inv-loop μ-loop
 returns-3 c =
-    let end = c .before .before .before .loop in
-    ends _ (end .i) (c .before .before .loop-test .left) (joined (end .run) (end .account) (end .bills) (end .store) (end .store255) (end .room) (end .room255)) (end .inv .4)
+    let end = c .before .before .before .before .before .loop in
+    ends _ (end .i) (c .before .before .before .before .loop-test .left) (joined (end .run) (end .books) (end .bills) (end .store) (end .store255) (end .room) (end .room255)) (end .inv .4)
 
 pub replay-spec : {M : Type 1} → statement M
 replay-spec =
@@ -151,6 +154,7 @@ replay-spec =
     returns
     fresh-requires
     fresh-requires-2
+    fresh-requires-3
     loop-holds
     record-at-requires
     enum-known-found
