@@ -1,0 +1,5 @@
+-- The laws of `ccnet_wide`.
+pub mod Frames
+pub mod Planned
+pub mod Trips
+pub mod Exact
