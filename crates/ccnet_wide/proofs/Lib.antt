@@ -3,3 +3,4 @@ pub mod Frames
 pub mod Planned
 pub mod Trips
 pub mod Exact
+pub mod Tied
