@@ -1,13 +1,12 @@
 // Lines about wide frames. The first word after the verb is the form: code, subcommand or once.
 //
-//     write code, room 65536: address 03h lead 70h 01h data 248 of 41h
-//     read once, bytes 256: start 02h address 03h length 00h lead 70h 01h says 256 fill 41h check 00h
+//     write code, room 65536: address 03h lead 60h 01h data 248 of 41h
+//     read once, bytes 256: start 02h address 03h length 00h lead 60h 01h says 256 fill 41h check 00h
 //
 // Written: so many data bytes, all the same, into a room of that size. Read: so many bytes, made here: the opening, what the form has before the true length, the
 // length that the line says, the fill, and the check, whose low byte is turned by the last byte of the line. Whatever was put or made is read in each of the three
 // forms and as a narrow frame. Of the data that are handed back the line tells how many they are, and how many of them are the fill.
 ghost use Prim.Native.Nat.{_≤_};
-ghost use lib.ListN.{length};
 use ccnet_wide::Form;
 use ccnet_wide::Judged;
 use ccnet_wide::Lead;
@@ -17,9 +16,14 @@ use refusals::Put;
 const UNTOUCHED: u8 = 0xA5;
 
 pub(crate) fn write(line: &[u8]) {
-    sheet::print_label(line);
+    print_line(line);
     let mut lent = [UNTOUCHED; 65_536];
     write_in(line, &mut lent);
+}
+
+fn print_line(line: &[u8]) {
+    sheet::print_text(b"  ");
+    sheet::print_text(line);
 }
 
 // Writes what the line gives to a room of the size that it gives.
@@ -33,24 +37,14 @@ fn write_in(line: &[u8], lent: &mut [u8]) {
 }
 
 fn put_frame(line: &[u8], fill: u8, lent: &mut [u8]) -> Put {
-    let address = sheet::byte(line, 5);
-    let first = sheet::byte(line, 7);
-    let second = sheet::byte(line, 8);
-    let count = sheet::number(line, 10);
-    sheet::print_form(
-        b" address $ lead $ $ data # of $",
-        &[
-            address as u32,
-            first as u32,
-            second as u32,
-            count,
-            fill as u32,
-        ],
-    );
     let given = [fill; 65_536];
-    let n = sheet::at_most(count as usize, &given);
-    let lead = lead_of(sheet::letter(line, 1), first, second);
-    ccnet_wide::write(address, lead, &given[0..n], lent)
+    let n = sheet::at_most(sheet::number(line, 10) as usize, &given);
+    let lead = lead_of(
+        sheet::letter(line, 1),
+        sheet::byte(line, 7),
+        sheet::byte(line, 8),
+    );
+    ccnet_wide::write(sheet::byte(line, 5), lead, &given[0..n], lent)
 }
 
 // By the form's first letter.
@@ -69,7 +63,7 @@ fn lead_of(letter: u8, first: u8, second: u8) -> Lead {
 
 // The frame's first eight bytes and its last two, and whether every other byte of the room is what it was.
 fn print_laid(n: usize, fill: u8, lent: &[u8]) {
-    sheet::print_text(b" -> length ");
+    sheet::print_text(b"    length ");
     sheet::print_number(n);
     sheet::print_text(b":");
     let end = sheet::at_most(n, lent);
@@ -90,7 +84,7 @@ fn print_last_two(s: &[u8]) {
 }
 
 fn print_refused(number: u8, lent: &[u8]) {
-    sheet::print_form(b" -> refused #, room ", &[number as u32]);
+    sheet::print_form(b"    refused #, room ", &[number as u32]);
     print_kept(lent);
 }
 
@@ -176,66 +170,48 @@ fn print_narrow(s: &[u8]) {
 }
 
 pub(crate) fn read(line: &[u8]) {
-    sheet::print_label(line);
+    print_line(line);
     let fill = sheet::byte(line, 16);
     let mut made = [fill; 65_536];
-    read_in(line, fill, &mut made);
+    let end = sheet::at_most(sheet::number(line, 3) as usize, &made);
+    read_in(line, fill, &mut made[0..end]);
 }
 
 fn read_in(line: &[u8], fill: u8, made: &mut [u8]) {
-    let end = sheet::at_most(sheet::number(line, 3) as usize, made);
-    make(line, fill, &mut made[0..end]);
-    let end = sheet::at_most(sheet::number(line, 3) as usize, made);
-    print_read(&made[0..end], fill);
-}
-
-// The opening, what the form has before the true length, the length that the line says, and the check.
-fn make(line: &[u8], fill: u8, made: &mut [u8]) {
-    let start = sheet::byte(line, 5);
-    let address = sheet::byte(line, 7);
-    let length = sheet::byte(line, 9);
-    let first = sheet::byte(line, 11);
-    let second = sheet::byte(line, 12);
-    let says = sheet::number(line, 14) % 65_536;
-    let turned = sheet::byte(line, 18);
-    sheet::print_form(
-        b" start $ address $ length $ lead $ $ says # fill $ check $\n",
-        &[
-            start as u32,
-            address as u32,
-            length as u32,
-            first as u32,
-            second as u32,
-            says,
-            fill as u32,
-            turned as u32,
-        ],
+    put_opening(line, made);
+    put_length(
+        length_place(sheet::letter(line, 1)),
+        sheet::number(line, 14),
+        made,
     );
-    put(start, 0, made);
-    put(address, 1, made);
-    put(length, 2, made);
-    put_lead(sheet::letter(line, 1), first, second, says, made);
-    put_check(turned, made);
+    put_check(sheet::byte(line, 18), made);
+    print_read(made, fill);
 }
 
-fn put_lead(letter: u8, first: u8, second: u8, says: u32, made: &mut [u8]) {
-    let high = (says / 256 % 256) as u8;
-    let low = (says % 256) as u8;
+// 02h, address and length byte, or what the line gives in their place; then the two lead bytes, of which the true length covers those that its form does not have.
+fn put_opening(line: &[u8], made: &mut [u8]) {
+    put(sheet::byte(line, 5), 0, made);
+    put(sheet::byte(line, 7), 1, made);
+    put(sheet::byte(line, 9), 2, made);
+    put(sheet::byte(line, 11), 3, made);
+    put(sheet::byte(line, 12), 4, made);
+}
+
+// Where the true length stands, by the form's first letter.
+fn length_place(letter: u8) -> usize
+    ensures { λ r. ⌜ r ≤ 5 ⌝ }
+{
     if letter == b'c' {
-        put(first, 3, made);
-        put(high, 4, made);
-        put(low, 5, made);
-        return;
+        return 4;
     }
-    if letter == b's' {
-        put(first, 3, made);
-        put(second, 4, made);
-        put(high, 5, made);
-        put(low, 6, made);
-        return;
-    }
-    put(high, 3, made);
-    put(low, 4, made);
+    if letter == b's' { 5 } else { 3 }
+}
+
+fn put_length(at: usize, says: u32, made: &mut [u8])
+    requires { ⌜ at ≤ 5 ⌝ }
+{
+    put((says / 256 % 256) as u8, at, made);
+    put((says % 256) as u8, at + 1, made);
 }
 
 fn put(b: u8, place: usize, made: &mut [u8]) {
