@@ -1,5 +1,6 @@
 // CCNET frames: the check; commands and answers written and read; the body handed back as a part of the caller's own bytes; and what an
-// answer's body says. Document 01, "CCNET frames".
+// answer's body says. Document 01, "CCNET frames". What every frame has, whichever form its length takes, is public for `ccnet_wide`: START, byte_at,
+// judge_sized, lay, plan and word.
 mod check;
 mod class;
 mod frame;

@@ -1,21 +1,19 @@
 -- A wide frame laid out passes every test in its form, and bytes that pass every test in a form are laid out so. Assumes nothing.
-use Prim.Native.Nat.{ℕ, suc, _+_, _-_, _*_, _/_, _%_, _≤_, _<_}
-use mathlib.Core.Path.{_≡_, refl, sym, ap, ap₂, _∙_, subst}
+use Prim.Native.Nat.{ℕ, suc, _+_, _-_, _*_, _/_, _%_, _≤_}
+use mathlib.Core.Path.{_≡_, refl, sym, ap, ap₂, _∙_}
 use mathlib.Core.Bool.{Bool, true, false, cond}
 use mathlib.Core.List.{List, [], _∷_, _++_}
-use mathlib.Core.Logic.{⊎-elim}
 use native.Mathlib.Omega.{arith}
 use lib.ListN.{length, take, drop, getD, length-append, length-drop}
 use lib.Seq.{take-at, drop-cons, length-take-le}
 use Rattle.refusals.specs.Rules.{Rule, judged}
 use Rattle.numbers.specs.Promises.{AllBytes}
-use Rattle.ccnet_frame.specs.Check.{check}
 use Rattle.ccnet_frame.specs.Frame.{closed, framed, isAddress, judgeSized}
 use Rattle.ccnet_frame.specs.declared.frame.Fault.{Fault}
 use Rattle.ccnet_frame.specs.declared.frame.Judged.{Judged as Narrow}
 use Rattle.ccnet_frame.specs.declared.frame.Judged.the-variants.{Good as NarrowGood, Refused as NarrowRefused}
 use Rattle.ccnet_frame.proofs.Frames.{Passed, passed, between, framed-length, framed-judged}
-use Rattle.ccnet_wide.specs.Wide.{leadBytes, wideRest, wideLength, wideFrame, formOf, leadAt, lengthPlace, trueLength, isSized, wideFaults, judgeWide, dataStart, dataSize, dataOf}
+use Rattle.ccnet_wide.specs.Wide.{leadBytes, wideRest, wideLength, wideFrame, formOf, leadAt, lengthPlace, trueLength, isSized, wideFaults, judgeWide, dataOf}
 use Rattle.ccnet_wide.specs.declared.Form.{Form}
 use Rattle.ccnet_wide.specs.declared.Form.the-variants.{AfterCode, AfterSubcommand, AtOnce}
 use Rattle.ccnet_wide.specs.declared.Lead.{Lead}

@@ -1,5 +1,5 @@
 -- `ccnet_wide::is_sized` meets its contract: each return is at the first test that fails. Assumes nothing.
-use borrow.Author.Tests.{le-ltb, lt-leb, le-leb, eq-eqb, ne-eqb}
+use borrow.Author.Tests.{lt-leb, le-leb, eq-eqb, ne-eqb}
 use Rattle.ccnet_wide.proofs.Frames.{place-most}
 use native.Mathlib.Omega.{arith}
 use borrow.Author.Needs.{needs}

@@ -1,5 +1,4 @@
 -- `ccnet_wide::lay_wide` meets its contract: the head of each form is its opening, what stands before the true length, and that length. Assumes nothing.
-use mathlib.Core.Path.{_≡_, ap, _∙_, sym}
 use native.Mathlib.Omega.{arith}
 use borrow.Author.Needs.{needs}
 use Rattle.ccnet_wide.proofs.lay_wide.Statement.{statement}

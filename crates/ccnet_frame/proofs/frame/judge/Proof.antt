@@ -4,7 +4,6 @@ use lib.Dec.{eqb}
 use lib.ListN.{length}
 use Rattle.ccnet_frame.specs.Frame.{isSized, judgeFrame}
 use Rattle.ccnet_frame.proofs.Frames.{sized-by}
-use native.Mathlib.Omega.{arith}
 use borrow.Author.Needs.{needs}
 use Rattle.ccnet_frame.proofs.frame.judge.Statement.{statement}
 use Rattle.ccnet_frame.proofs.frame.judge.Tie as tie
