@@ -142,7 +142,8 @@ fn is_sized(form: Form, s: &[u8]) -> bool
     if s.len() < at + 2 {
         return false;
     }
-    let said = word(s[at + 1], s[at]) as usize;
+    let next = at + 1;
+    let said = word(s[next], s[at]) as usize;
     if said < LEAST {
         return false;
     }

@@ -21,8 +21,8 @@ add-if2 c = omega (arith, c .length-place .ensures, place-most (c .before .befor
 returns-2 : tie.Need-returns-2
 returns-2 c = simp (← c .before .before .before .byte-at .ensures, eq-eqb _ _ (c .before .before .if1 .left), ← c .before .length-place .ensures, lt-leb _ _ (c .if2 .taken))
 
-add-word : tie.Need-add-word
-add-word c = search needs
+add-next : tie.Need-add-next
+add-next c = search needs
 
 shared-slice-read-word : tie.Need-shared-slice-read-word
 shared-slice-read-word c = search needs
@@ -67,7 +67,7 @@ is-sized-spec =
     length-place-requires
     add-if2
     returns-2
-    add-word
+    add-next
     shared-slice-read-word
     shared-slice-read-word-2
     word-requires
