@@ -19,6 +19,7 @@ pub mod error_class;
 
 // "CCNET frames", "The validator session"
 pub mod ccnet_frame;
+pub mod ccnet_wide;
 pub mod validator;
 
 // Recordings to try: written as text, simulated, made from a seed.
@@ -34,3 +35,4 @@ pub mod other;
 pub mod reach;
 pub mod shrink;
 pub mod watch;
+pub mod wide_sheet;

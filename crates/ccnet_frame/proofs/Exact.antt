@@ -5,12 +5,12 @@ use native.Mathlib.Omega.{arith}
 use lib.ListN.{getD}
 use Rattle.refusals.proofs.Rules.{exactly}
 use Rattle.refusals.proofs.Writing.{writes}
-use Rattle.ccnet_frame.specs.Frame.{frame, frameRefusals, writeFrame, faults, judgeFrame}
+use Rattle.ccnet_frame.specs.Frame.{frame, frameRefusals, writeFrame, faults, judgeSized, judgeFrame}
 use Rattle.ccnet_frame.specs.Promises.{ExactlyWhen, InOrder}
 use Rattle.ccnet_frame.specs.declared.frame.Judged.the-variants.{Good, Refused}
 
 pub exactly-when : ExactlyWhen
-unfolding writeFrame judgeFrame
+unfolding writeFrame judgeFrame judgeSized faults
 exactly-when =
     record {
       write = λ address body room. writes (frameRefusals address body room) (frame address body) room;

@@ -14,8 +14,18 @@ use Rattle.ccnet_frame.proofs.frame.Fault.number.Kinds as fault-number
 use Rattle.ccnet_frame.proofs.frame.Fault.number.Reads as fault-number-reads
 use Rattle.ccnet_frame.proofs.frame.body.Kinds as body
 use Rattle.ccnet_frame.proofs.frame.body.Reads as body-reads
+use Rattle.ccnet_frame.proofs.frame.byte_at.Kinds as byte-at
+use Rattle.ccnet_frame.proofs.frame.byte_at.Reads as byte-at-reads
 use Rattle.ccnet_frame.proofs.frame.judge.Kinds as judge
 use Rattle.ccnet_frame.proofs.frame.judge.Reads as judge-reads
+use Rattle.ccnet_frame.proofs.frame.judge_sized.Kinds as judge-sized
+use Rattle.ccnet_frame.proofs.frame.judge_sized.Reads as judge-sized-reads
+use Rattle.ccnet_frame.proofs.frame.lay.Kinds as lay
+use Rattle.ccnet_frame.proofs.frame.lay.Reads as lay-reads
+use Rattle.ccnet_frame.proofs.frame.plan.Kinds as plan
+use Rattle.ccnet_frame.proofs.frame.plan.Reads as plan-reads
+use Rattle.ccnet_frame.proofs.frame.word.Kinds as word
+use Rattle.ccnet_frame.proofs.frame.word.Reads as word-reads
 use Rattle.ccnet_frame.proofs.frame.write_ack.Kinds as write-ack
 use Rattle.ccnet_frame.proofs.frame.write_ack.Reads as write-ack-reads
 use Rattle.ccnet_frame.proofs.frame.write_answer.Kinds as write-answer
@@ -62,3 +72,18 @@ pub write-nak-tied : Tied write-nak.ps write-nak.r write-nak-reads.Post {A = Put
 write-nak-tied =
     tied write-nak.ps write-nak.r write-nak-reads.Post {A = Put × List ℕ} (λ κs x e. (x, now (e .0))) _
     (λ κs a x e p. ap (λ w. (w .answer, w .room)) p)
+
+pub byte-at-tied : Tied byte-at.ps byte-at.r byte-at-reads.Post (λ κs x e. x)
+byte-at-tied = tied byte-at.ps byte-at.r byte-at-reads.Post (λ κs x e. x) _ (λ κs a x e p. p)
+
+pub judge-sized-tied : Tied judge-sized.ps judge-sized.r judge-sized-reads.Post (λ κs x e. x)
+judge-sized-tied = tied judge-sized.ps judge-sized.r judge-sized-reads.Post (λ κs x e. x) _ (λ κs a x e p. p)
+
+pub plan-tied : Tied plan.ps plan.r plan-reads.Post (λ κs x e. x)
+plan-tied = tied plan.ps plan.r plan-reads.Post (λ κs x e. x) _ (λ κs a x e p. p)
+
+pub word-tied : Tied word.ps word.r word-reads.Post (λ κs x e. x)
+word-tied = tied word.ps word.r word-reads.Post (λ κs x e. x) _ (λ κs a x e p. p)
+
+pub lay-tied : Tied lay.ps lay.r lay-reads.Post (λ κs x e. now (e .1 .1 .0))
+lay-tied = tied lay.ps lay.r lay-reads.Post (λ κs x e. now (e .1 .1 .0)) _ (λ κs a x e p. p)

@@ -23,39 +23,59 @@ faultNumber Check = badCheck
 unfoldable pub closed : List ℕ → List ℕ
 closed s = s ++ (check s % 256 ∷ check s / 256 ∷ [])
 
--- "02h, address, length, body, two check bytes"; "Length counts the whole frame"
+-- "02h, address, length, body, two check bytes": every frame, by its address, its length byte and what stands between that and the check
+abbrev pub framed : ℕ → ℕ → List ℕ → List ℕ
+framed address byte rest = closed (0x02 ∷ address ∷ byte ∷ rest)
+
+-- "Length counts the whole frame"
 unfoldable pub frame : ℕ → List ℕ → List ℕ
-frame address body = closed (0x02 ∷ address ∷ (5 + length body) ∷ body)
+frame address body = framed address (5 + length body) body
 
 -- "Address 01h to 0Fh"
 abbrev pub isAddress : ℕ → Condition
 isAddress a = within 0x01 0x0F a
 
--- "a body length out of range has no frame length, so it gives 2"; then the room, 1; then the address, 2
-unfoldable pub frameRefusals : ℕ → List ℕ → List ℕ → List (Rule Refusal)
-frameRefusals address body room =
-    isnt (within 1 250 (length body)) gives Range
-    ∷ under (length room) (5 + length body) gives Room
+-- every writer of frames: "a body length out of range has no frame length, so it gives 2"; then the room, 1, which n bytes are to be written to; then the
+-- address, 2
+abbrev pub writerRefusals : Condition → ℕ → ℕ → ℕ → List (Rule Refusal)
+writerRefusals sized n address room =
+    isnt sized gives Range
+    ∷ under room n gives Room
     ∷ isnt (isAddress address) gives Range
     ∷ []
 
--- a frame written: an answer's body, or a command's code and data, is 1 to 250 bytes
+-- an answer's body, or a command's code and data, is 1 to 250 bytes
+unfoldable pub frameRefusals : ℕ → List ℕ → List ℕ → List (Rule Refusal)
+frameRefusals address body room = writerRefusals (within 1 250 (length body)) (5 + length body) address (length room)
+
+-- a frame written
 unfoldable pub writeFrame : ℕ → List ℕ → List ℕ → Written
 writeFrame address body room =
     judged (frameRefusals address body room) (λ why. refused why room) (laid (frame address body) room)
 
--- "CCNET frames: under 6 bytes, 11; 02h and address, 12; length byte against the bytes given, 11; 15."
-unfoldable pub faults : List ℕ → List (Rule Fault)
-faults s =
+-- every reader of frames: "under 6 bytes, 11; 02h and address, 12; length .. against the bytes given, 11; 15."
+abbrev pub readerFaults : Condition → List ℕ → List (Rule Fault)
+readerFaults sized s =
     under (length s) 6 gives Length
     ∷ isnt (both (same (getD s 0 0) 0x02) (isAddress (getD s 1 0))) gives Opening
-    ∷ isnt (same (getD s 2 0) (length s)) gives Length
+    ∷ isnt sized gives Length
     ∷ isnt (same (check (take (length s - 2) s)) (getD s (length s - 2) 0 + 256 * getD s (length s - 1) 0)) gives Check
     ∷ []
 
--- a frame judged: good, with its address, or refused
+-- judged so: good, with its address, or refused
+unfoldable pub judgeSized : Condition → List ℕ → Judged
+judgeSized sized s = judged (readerFaults sized s) Refused (Good (getD s 1 0))
+
+-- "length byte against the bytes given"
+abbrev pub isSized : List ℕ → Condition
+isSized s = same (getD s 2 0) (length s)
+
+unfoldable pub faults : List ℕ → List (Rule Fault)
+faults s = readerFaults (isSized s) s
+
+-- a frame judged
 unfoldable pub judgeFrame : List ℕ → Judged
-judgeFrame s = judged (faults s) Refused (Good (getD s 1 0))
+judgeFrame s = judgeSized (isSized s) s
 
 -- where a judged frame's body stands in it, and how long it is; nothing, at the start, where the frame is refused
 abbrev pub bodyStart : Judged → ℕ

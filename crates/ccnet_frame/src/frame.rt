@@ -2,10 +2,11 @@
 ghost use mathlib.Core.Path.{_≡_};
 ghost use mathlib.Core.List.{[], _∷_, _++_};
 ghost use Prim.Native.Nat.{_+_, _*_, _≤_};
-ghost use lib.ListN.{length};
+ghost use lib.ListN.{length, getD};
 ghost use Rattle.refusals.specs.Put.{written, writing, over};
+ghost use Rattle.refusals.specs.Rules.{says, within};
 ghost use Rattle.ccnet_frame.specs.Check.{checkFrom};
-ghost use Rattle.ccnet_frame.specs.Frame.{faultNumber, closed, frame, isAddress, writeFrame, judgeFrame, bodyStart, bodySize};
+ghost use Rattle.ccnet_frame.specs.Frame.{faultNumber, closed, frame, isAddress, writeFrame, judgeSized, judgeFrame, bodyStart, bodySize};
 ghost use Rattle.ccnet_frame.specs.Part.{Part};
 ghost use Rattle.ccnet_frame.specs.Parts.{planned};
 use crate::check::check_of;
@@ -15,15 +16,13 @@ use refusals::Put;
 use refusals::Refusal;
 
 // The byte that every frame begins with.
-const START: u8 = 0x02;
+pub const START: u8 = 0x02;
 
 // The validator's address, which ACK and NAK carry.
 const VALIDATOR: u8 = 0x03;
 
-// The most bytes of a body, and so the most data bytes beside a command's code.
+// The most bytes of a body. Beside a command's code that leaves 249 data bytes.
 const MOST_BODY: usize = 250;
-
-const MOST_DATA: usize = 249;
 
 // Why a reader refuses a frame.
 pub enum Fault {
@@ -79,7 +78,7 @@ fn put(bytes: &[u8], c: u16, room: &mut [u8]) -> u16
 }
 
 // Lays a frame at the start of the room: its head, its body, and their two check bytes, low byte first.
-fn lay(head: &[u8], body: &[u8], room: &mut [u8])
+pub fn lay(head: &[u8], body: &[u8], room: &mut [u8])
     requires { ⌜ length (now head) + length (now body) + 2 ≤ length (now room) ⌝ }
     ensures { λ r. ⌜ now (room .exit) ≡ over (closed (now (head .entry) ++ now (body .entry))) (now (room .entry)) ⌝ }
 {
@@ -91,17 +90,14 @@ fn lay(head: &[u8], body: &[u8], room: &mut [u8])
     room[end + 1] = (sum / 256) as u8;
 }
 
-// How long the frame with that address and a body of that size is, or why it is not to be written into a room of that size.
-fn plan(address: u8, size: usize, room: usize) -> Put
-    ensures { λ r. ⌜ r ≡ planned address size room ⌝ }
+// How long a frame of n bytes with that address is, or why it is not to be written into a room of that size; sized says whether a
+// frame may have n bytes.
+pub fn plan(sized: bool, n: usize, address: u8, room: usize) -> Put
+    ensures { λ r. ⌜ r ≡ planned sized n address room ⌝ }
 {
-    if size < 1 {
+    if !sized {
         return Put::Refused(Refusal::Range);
     }
-    if MOST_BODY < size {
-        return Put::Refused(Refusal::Range);
-    }
-    let n = 5 + size;
     if room < n {
         return Put::Refused(Refusal::Room);
     }
@@ -111,11 +107,22 @@ fn plan(address: u8, size: usize, room: usize) -> Put
     Put::Refused(Refusal::Range)
 }
 
+// May a body have that size: 1 to 250?
+fn is_body(size: usize) -> bool
+    ensures { λ r. ⌜ r ≡ within 1 250 size .test ⌝ }
+{
+    if size < 1 {
+        return false;
+    }
+    size <= MOST_BODY
+}
+
 // Writes an answer's frame at the start of the room: a body of 1 to 250 bytes. A refusal leaves the room as it was.
 pub fn write_answer(address: u8, body: &[u8], room: &mut [u8]) -> Put
     ensures { λ r. ⌜ written r (now (room .exit)) ≡ writeFrame address (now (body .entry)) (now (room .entry)) ⌝ }
 {
-    match plan(address, body.len(), room.len()) {
+    let size = body.len();
+    match plan(is_body(size), 5 + size, address, room.len()) {
         Put::Bytes(n) => {
             let length_byte = n as u8;
             lay(&[START, address, length_byte], body, room);
@@ -130,10 +137,8 @@ pub fn write_answer(address: u8, body: &[u8], room: &mut [u8]) -> Put
 pub fn write_command(address: u8, code: u8, given: &[u8], room: &mut [u8]) -> Put
     ensures { λ r. ⌜ written r (now (room .exit)) ≡ writeFrame address (code ∷ now (given .entry)) (now (room .entry)) ⌝ }
 {
-    if MOST_DATA < given.len() {
-        return Put::Refused(Refusal::Range);
-    }
-    match plan(address, 1 + given.len(), room.len()) {
+    let size = 1 + given.len();
+    match plan(is_body(size), 5 + size, address, room.len()) {
         Put::Bytes(n) => {
             let length_byte = n as u8;
             lay(&[START, address, length_byte, code], given, room);
@@ -157,16 +162,26 @@ pub fn write_nak(room: &mut [u8]) -> Put
     write_answer(VALIDATOR, &[0xFF], room)
 }
 
-// The number that two bytes say, low byte first.
-fn word(low: u8, high: u8) -> u16
+// The number that two bytes say.
+pub fn word(low: u8, high: u8) -> u16
     ensures { λ r. ⌜ r ≡ low + 256 * high ⌝ }
 {
     (low as u16) + 256 * (high as u16)
 }
 
-// Judges a frame.
-pub fn judge(s: &[u8]) -> Judged
-    ensures { λ r. ⌜ r ≡ judgeFrame (now (s .entry)) ⌝ }
+// The byte at a place; 0 where there is none.
+pub fn byte_at(s: &[u8], at: usize) -> u8
+    ensures { λ r. ⌜ r ≡ getD (now (s .entry)) at 0 ⌝ }
+{
+    if at < s.len() {
+        return s[at];
+    }
+    0
+}
+
+// Judges a frame of which sized says whether its length is right.
+pub fn judge_sized(s: &[u8], sized: bool) -> Judged
+    ensures { λ r. ⌜ r ≡ judgeSized (says sized) (now (s .entry)) ⌝ }
 {
     let n = s.len();
     if n < 6 {
@@ -179,7 +194,7 @@ pub fn judge(s: &[u8]) -> Judged
     if !is_address(address) {
         return Judged::Refused(Fault::Opening);
     }
-    if s[2] as usize != n {
+    if !sized {
         return Judged::Refused(Fault::Length);
     }
     let end = n - 2;
@@ -187,6 +202,14 @@ pub fn judge(s: &[u8]) -> Judged
         return Judged::Refused(Fault::Check);
     }
     Judged::Good { address }
+}
+
+// Judges a frame.
+pub fn judge(s: &[u8]) -> Judged
+    ensures { λ r. ⌜ r ≡ judgeFrame (now (s .entry)) ⌝ }
+{
+    let length_byte = byte_at(s, 2) as usize;
+    judge_sized(s, length_byte == s.len())
 }
 
 // The body of a good frame, as a part of the caller's own bytes; an empty part where the frame is refused.

@@ -1,113 +1,27 @@
--- `ccnet_frame::frame::judge` meets its contract: each return is at the first test that fails. Assumes nothing.
-use mathlib.Core.Path.{sym}
-use lib.Seq.{length-take-le}
-use borrow.Author.Tests.{le-ltb, eq-eqb, ne-eqb}
-use Rattle.refusals.proofs.Rules.{tests}
-use Rattle.ccnet_frame.specs.Frame.{judgeFrame, faults}
-use native.Mathlib.Omega.{arith}
+-- `ccnet_frame::frame::judge` meets its contract: its length byte says the bytes given. Assumes nothing.
+use mathlib.Core.Path.{ap, _∙_}
+use lib.Dec.{eqb}
+use lib.ListN.{length}
+use Rattle.ccnet_frame.specs.Frame.{isSized, judgeFrame}
+use Rattle.ccnet_frame.proofs.Frames.{sized-by}
 use borrow.Author.Needs.{needs}
 use Rattle.ccnet_frame.proofs.frame.judge.Statement.{statement}
 use Rattle.ccnet_frame.proofs.frame.judge.Tie as tie
 
+byte-at-requires : tie.Need-byte-at-requires
+byte-at-requires c κs = search needs
+
+cast-length-byte : tie.Need-cast-length-byte
+cast-length-byte c = search needs
+
+judge-sized-requires : tie.Need-judge-sized-requires
+judge-sized-requires c κs = search needs
+
 returns : tie.Need-returns
-unfolding judgeFrame faults
-returns c = search tests
-
-shared-slice-read-if2 : tie.Need-shared-slice-read-if2
-shared-slice-read-if2 c = search needs
-
-returns-2 : tie.Need-returns-2
-unfolding judgeFrame faults
-returns-2 c = search tests
-
-shared-slice-read-address : tie.Need-shared-slice-read-address
-shared-slice-read-address c = search needs
-
-is-address-requires : tie.Need-is-address-requires
-is-address-requires c κs = search needs
-
-returns-3 : tie.Need-returns-3
-unfolding judgeFrame faults
-returns-3 c = search (tests, ← c .before .is-address .ensures, c .if3 .taken)
-
-shared-slice-read-if4 : tie.Need-shared-slice-read-if4
-shared-slice-read-if4 c = search needs
-
-cast-if4 : tie.Need-cast-if4
-cast-if4 c = omega (arith, c .shared-slice-known4 .given 2)
-
-returns-4 : tie.Need-returns-4
-unfolding judgeFrame faults
-returns-4 c = search (tests, ← c .before .before .before .is-address .ensures, c .before .before .if3 .left)
-
-sub-end : tie.Need-sub-end
-sub-end c = search needs
-
-slice-aggregate-check-of : tie.Need-slice-aggregate-check-of
-slice-aggregate-check-of c = sym (length-take-le _ _ (omega arith))
-
-check-of-requires : tie.Need-check-of-requires
-check-of-requires c κs = search needs
-
-shared-slice-read-word : tie.Need-shared-slice-read-word
-shared-slice-read-word c = search needs
-
-sub-word : tie.Need-sub-word
-sub-word c = search needs
-
-shared-slice-read-word-2 : tie.Need-shared-slice-read-word-2
-shared-slice-read-word-2 c = search needs
-
-word-requires : tie.Need-word-requires
-word-requires c κs = search needs
-
-returns-5 : tie.Need-returns-5
-unfolding judgeFrame faults
-returns-5 c =
-    simp (
-      le-ltb _ _ (c .before .before .before .before .before .before .before .before .before .before .before .before .before .if1 .left),
-      eq-eqb _ _ (c .before .before .before .before .before .before .before .before .before .before .before .if2 .left),
-      ← c .before .before .before .before .before .before .before .before .before .is-address .ensures,
-      c .before .before .before .before .before .before .before .before .if3 .left,
-      eq-eqb _ _ (c .before .before .before .before .before .before .if4 .left),
-      ← c .before .before .before .before .check-of .ensures,
-      ← c .before .word .ensures,
-      ne-eqb _ _ (c .if5 .taken),
-    )
-
-returns-6 : tie.Need-returns-6
-unfolding judgeFrame faults
-returns-6 c =
-    simp (
-      le-ltb _ _ (c .before .before .before .before .before .before .before .before .before .before .before .before .before .if1 .left),
-      eq-eqb _ _ (c .before .before .before .before .before .before .before .before .before .before .before .if2 .left),
-      ← c .before .before .before .before .before .before .before .before .before .is-address .ensures,
-      c .before .before .before .before .before .before .before .before .if3 .left,
-      eq-eqb _ _ (c .before .before .before .before .before .before .if4 .left),
-      ← c .before .before .before .before .check-of .ensures,
-      ← c .before .word .ensures,
-      eq-eqb _ _ (c .if5 .left),
-    )
+unfolding judgeFrame
+returns c =
+    let s = c .before .before .before .args .s .now in
+    c .judge-sized .ensures ∙ sized-by (isSized s) s _ (ap (λ b. eqb b (length s)) (c .before .byte-at .ensures))
 
 pub judge-spec : {M : Type 1} → statement M
-judge-spec =
-    tie.close
-    (tie.spec
-    returns
-    shared-slice-read-if2
-    returns-2
-    shared-slice-read-address
-    is-address-requires
-    returns-3
-    shared-slice-read-if4
-    cast-if4
-    returns-4
-    sub-end
-    slice-aggregate-check-of
-    check-of-requires
-    shared-slice-read-word
-    sub-word
-    shared-slice-read-word-2
-    word-requires
-    returns-5
-    returns-6)
+judge-spec = tie.close (tie.spec byte-at-requires cast-length-byte judge-sized-requires returns)

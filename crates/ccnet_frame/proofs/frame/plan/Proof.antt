@@ -7,30 +7,22 @@ use Rattle.ccnet_frame.proofs.frame.plan.Tie as tie
 
 returns : tie.Need-returns
 unfolding planned
-returns c = search tests
+returns c = simp (c .if1 .taken)
 
 returns-2 : tie.Need-returns-2
 unfolding planned
-returns-2 c = search tests
-
-add-n : tie.Need-add-n
-add-n c = search needs
-
-returns-3 : tie.Need-returns-3
-unfolding planned
-returns-3 c = search tests
+returns-2 c = search (tests, c .before .if1 .left)
 
 is-address-requires : tie.Need-is-address-requires
 is-address-requires c κs = search needs
 
+returns-3 : tie.Need-returns-3
+unfolding planned
+returns-3 c = search (tests, c .before .before .before .if1 .left, ← c .before .is-address .ensures, c .if3 .taken)
+
 returns-4 : tie.Need-returns-4
 unfolding planned
-returns-4 c = search (tests, ← c .before .is-address .ensures, c .if4 .taken)
-
-returns-5 : tie.Need-returns-5
-unfolding planned
-returns-5 c = search (tests, ← c .before .is-address .ensures, c .if4 .left)
+returns-4 c = search (tests, c .before .before .before .if1 .left, ← c .before .is-address .ensures, c .if3 .left)
 
 pub plan-spec : {M : Type 1} → statement M
-plan-spec =
-    tie.close (tie.spec returns returns-2 add-n returns-3 is-address-requires returns-4 returns-5)
+plan-spec = tie.close (tie.spec returns returns-2 is-address-requires returns-3 returns-4)

@@ -2,16 +2,17 @@
 -- Assumes nothing.
 use mathlib.Core.Path.{sym, _∙_}
 use mathlib.Core.List.{_∷_}
-use Rattle.ccnet_frame.proofs.Planned.{planned-refused, planned-fit, too-long}
+use Rattle.ccnet_frame.proofs.Planned.{body-refused, body-fit}
 use native.Mathlib.Omega.{arith}
 use borrow.Author.Needs.{needs}
 use Rattle.ccnet_frame.proofs.frame.write_command.Statement.{statement}
 use Rattle.ccnet_frame.proofs.frame.write_command.Tie as tie
 
-returns : tie.Need-returns
-returns c =
-    let args = c .before .before .before .args in
-    too-long (args .address) (args .code ∷ args .given .now) (args .room .now) (omega arith)
+add-size : tie.Need-add-size
+add-size c = search needs
+
+is-body-requires : tie.Need-is-body-requires
+is-body-requires c κs = search needs
 
 add-plan : tie.Need-add-plan
 add-plan c = search needs
@@ -27,7 +28,7 @@ cast-length-byte c =
     let args = c .before .before .before .before .before .before .before .args in
     let body = args .code ∷ args .given .now in
     let plan = sym (c .before .before .before .plan .ensures) ∙ c .before .n .given .1 in
-    let fit = planned-fit (args .address) body (args .room .now) _ _ (omega arith) plan in
+    let fit = body-fit (args .address) body (args .room .now) _ _ _ (omega arith) (c .before .before .before .before .is-body .ensures) plan in
     omega (arith, fit .most)
 
 slice-aggregate-lay : tie.Need-slice-aggregate-lay
@@ -38,7 +39,7 @@ lay-requires c κs =
     let args = c .before .before .before .before .before .before .before .before .before .args in
     let body = args .code ∷ args .given .now in
     let plan = sym (c .before .before .before .before .before .plan .ensures) ∙ c .before .before .before .n .given .1 in
-    let fit = planned-fit (args .address) body (args .room .now) _ _ (omega arith) plan in
+    let fit = body-fit (args .address) body (args .room .now) _ _ _ (omega arith) (c .before .before .before .before .before .before .is-body .ensures) plan in
     omega (arith, fit .long, fit .holds)
 
 enum-known-why : tie.Need-enum-known-why
@@ -47,27 +48,26 @@ enum-known-why c = search needs
 same-length : tie.Need-same-length
 same-length c = search needs
 
-returns-2 : tie.Need-returns-2
-returns-2 c =
+returns : tie.Need-returns
+returns c =
     let args = c .before .before .before .before .before .before .before .before .before .before .before .before .args in
     let body = args .code ∷ args .given .now in
-    let plan =
-    sym (c .before .before .before .before .before .before .before .before .plan .ensures) ∙ c .before .before .before .before .before .before .n .given .1 in
-    let fit = planned-fit (args .address) body (args .room .now) _ _ (omega arith) plan in
+    let plan = sym (c .before .before .before .before .before .before .before .before .plan .ensures) ∙ c .before .before .before .before .before .before .n .given .1 in
+    let fit = body-fit (args .address) body (args .room .now) _ _ _ (omega arith) (c .before .before .before .before .before .before .before .before .before .is-body .ensures) plan in
     fit .writes _ (c .before .before .lay .ensures)
 
-returns-3 : tie.Need-returns-3
-returns-3 c =
+returns-2 : tie.Need-returns-2
+returns-2 c =
     let args = c .before .before .before .before .before .before .before .args in
-    let body = args .code ∷ args .given .now in
     let plan = sym (c .before .before .before .plan .ensures) ∙ c .before .why .given .1 in
-    planned-refused (args .address) body (args .room .now) _ _ (omega arith) plan
+    body-refused (args .address) (args .code ∷ args .given .now) (args .room .now) _ _ _ (omega arith) (c .before .before .before .before .is-body .ensures) plan
 
 pub write-command-spec : {M : Type 1} → statement M
 write-command-spec =
     tie.close
     (tie.spec
-    returns
+    add-size
+    is-body-requires
     add-plan
     plan-requires
     enum-known-n
@@ -76,5 +76,5 @@ write-command-spec =
     lay-requires
     enum-known-why
     same-length
-    returns-2
-    returns-3)
+    returns
+    returns-2)

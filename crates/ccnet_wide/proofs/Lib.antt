@@ -1,0 +1,6 @@
+-- The laws of `ccnet_wide`.
+pub mod Frames
+pub mod Planned
+pub mod Trips
+pub mod Exact
+pub mod Tied

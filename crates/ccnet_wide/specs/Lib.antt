@@ -1,0 +1,3 @@
+-- What the contracts of `ccnet_wide` cite.
+pub mod Wide
+pub mod Promises
