@@ -98,6 +98,7 @@ pub record Passed (sized : Condition) (s : List ℕ) (address : ℕ) : Type 0 wh
   pub at : getD s 1 0 ≡ address
   pub named : isAddress address .holds
   pub right : sized .holds
+  pub checked : check (take (length s - 2) s) ≡ getD s (length s - 2) 0 + 256 * getD s (length s - 1) 0
   pub again : AllBytes s → framed address (getD s 2 0) (between s) ≡ s
 
 pub between-length : (s : List ℕ) → 6 ≤ length s → length (between s) ≡ length s - 5
@@ -126,6 +127,7 @@ passed sized s address e =
       at = at;
       named = subst (λ (a : ℕ). isAddress a .holds) at (opening .1);
       right = certain sized (none .1 .1 .0);
+      checked = said;
       again = λ bytes. ap closed (sym front) ∙ closed-again s bytes (omega arith) said;
     })
     (first-or-none (readerFaults sized s))

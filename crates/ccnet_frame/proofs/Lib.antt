@@ -1,6 +1,5 @@
 -- The laws of `ccnet_frame`.
 pub mod Checks
-pub mod Xor
 pub mod Turns
 pub mod WholeByte
 pub mod Laying
@@ -9,4 +8,5 @@ pub mod Planned
 pub mod Trips
 pub mod Exact
 pub mod Classes
+pub mod Noise
 pub mod Tied

@@ -5,3 +5,4 @@ pub mod Part
 pub mod Class
 pub mod Parts
 pub mod Promises
+pub mod Noise

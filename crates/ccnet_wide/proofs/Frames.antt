@@ -145,11 +145,11 @@ split AtOnce s h =
     rw (e, drop-cons s 3 0 (omega arith), drop-cons s 4 0 (omega arith))
 
 -- what is good in a form
-record Read (form : Form) (s : List ℕ) (address : ℕ) (lead : Lead) : Type 0 where
-  is : lead ≡ leadAt form s
-  tested : Passed (isSized form s) s address
+pub record Read (form : Form) (s : List ℕ) (address : ℕ) (lead : Lead) : Type 0 where
+  pub is : lead ≡ leadAt form s
+  pub tested : Passed (isSized form s) s address
 
-good-read : (form : Form) (s : List ℕ) (address : ℕ) (lead : Lead) → judgeWide form s ≡ Good address lead → Read form s address lead
+pub good-read : (form : Form) (s : List ℕ) (address : ℕ) (lead : Lead) → judgeWide form s ≡ Good address lead → Read form s address lead
 good-read form s address lead good = by (judgeSized (isSized form s) s) refl
   where
     by : (x : Narrow) → judgeSized (isSized form s) s ≡ x → Read form s address lead

@@ -3,4 +3,5 @@ pub mod Frames
 pub mod Planned
 pub mod Trips
 pub mod Exact
+pub mod Noise
 pub mod Tied

@@ -4,4 +4,5 @@ pub mod Raw
 pub mod Fields
 pub mod Frames
 pub mod Reading
+pub mod Noise
 pub mod Tied

@@ -3,3 +3,4 @@ pub mod Layout
 pub mod Frame
 pub mod Parts
 pub mod Promises
+pub mod Noise

@@ -1,9 +1,9 @@
--- Laws of the exclusive or, by halving: the lowest bit and the rest, association. Assumes nothing.
+-- Laws of the exclusive or, by halving: the lowest bit and the rest, association, what cancels. Assumes nothing.
 use mathlib.Core.Path.{_≡_, refl, sym, ap, ap₂, _∙_}
 use Prim.Native.Nat.{ℕ, zero, suc, _+_, _*_, _/_, _%_, _<_, zero-le, suc-le-suc}
 use native.Mathlib.Nat.{mod-lt, zero-lt-suc, le-of-suc-le-suc, not-suc-le-zero}
 use lib.Arith.{bin-ind, digits-mod}
-use lib.Bits.{bitXor, differ, xor-step, xor-shr, xor-comm}
+use lib.Bits.{bitXor, differ, xor-step, xor-shr, xor-comm, xor-self, xor-zero-r}
 
 -- a number below 2 is 0 or 1
 pub two : (P : ℕ → Type 0) → P 0 → P 1 → (x : ℕ) → x < 2 → P x
@@ -49,3 +49,13 @@ xor-pairs a b c d =
     xor-assoc a b (bitXor c d)
     ∙ ap (bitXor a) (sym (xor-assoc b c d) ∙ ap (λ (x : ℕ). bitXor x d) (xor-comm b c) ∙ xor-assoc c b d)
     ∙ sym (xor-assoc a c (bitXor b d))
+
+-- what is added twice is gone
+pub xor-cancel : (a b : ℕ) → bitXor (bitXor a b) b ≡ a
+xor-cancel a b = xor-assoc a b b ∙ ap (bitXor a) (xor-self b) ∙ xor-zero-r a
+
+pub xor-eq : (a b : ℕ) → bitXor a b ≡ 0 → a ≡ b
+xor-eq a b e = sym (xor-cancel a b) ∙ ap (λ (x : ℕ). bitXor x b) e
+
+pub xor-right : (a b t : ℕ) → bitXor a t ≡ bitXor b t → a ≡ b
+xor-right a b t e = sym (xor-cancel a t) ∙ ap (λ (x : ℕ). bitXor x t) e ∙ xor-cancel b t
