@@ -285,16 +285,16 @@ fn booked(books: Books, asked: Asked, entry: Entry) -> Books
     match entry {
         Entry::Nothing => books,
         Entry::Asked(reply) => {
-            let errors = dispenser::erred(were, reply);
+            let errors = dispenser_books::erred(were, reply);
             Books {
-                account: dispenser::booked_request(account, asked, reply),
+                account: dispenser_books::booked_request(account, asked, reply),
                 errors,
             }
         }
         Entry::Heard(reply) => {
-            let errors = dispenser::erred(were, reply);
+            let errors = dispenser_books::erred(were, reply);
             Books {
-                account: dispenser::booked(account, asked, reply),
+                account: dispenser_books::booked(account, asked, reply),
                 errors,
             }
         }
