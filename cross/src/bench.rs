@@ -3,15 +3,16 @@
 
 use crate::ccnet_frame::{self, Class};
 use crate::dispenser::{Closing, Session, NAK};
-use crate::dispenser_frame::{answer, check, status, Code, Command, Counted, Fault, OPENING};
+use crate::dispenser_frame::{answer, check, read_answer, status, Code, Command, Counted, Fault, OPENING};
 use crate::error_class::{BESIDE, LISTED};
 use crate::random::Random;
 use crate::recording::{self, Record};
 use crate::replay::{Bench, Played, Rooms};
 use crate::validator;
+use std::collections::VecDeque;
 
 /// What a device has still to say: when, and which byte.
-type Saying = std::collections::VecDeque<(u64, u8)>;
+type Saying = VecDeque<(u64, u8)>;
 
 /// How a device behaves through a recording.
 #[derive(Clone, Copy, PartialEq, Eq)]
@@ -24,6 +25,8 @@ enum Temper {
     Rough,
     /// Says no, or garbles what it says, time after time.
     Stubborn,
+    /// Its cable is loose: most payouts are lost, and of other commands some.
+    Loose,
 }
 
 /// Whom the one who asks is busy with.
@@ -50,6 +53,17 @@ pub struct Simulation {
     said: Vec<u8>,
     /// How often more the dispenser will say 15h to what it is handed.
     refusals: u32,
+    /// The answers that a loose cable has still to spoil.
+    spoilt: VecDeque<Spoilt>,
+    /// Whether the operator has just called clear.
+    cleared: bool,
+}
+
+/// What a loose cable makes of an answer.
+#[derive(Clone, Copy)]
+enum Spoilt {
+    Garbled,
+    CutOff,
 }
 
 impl Simulation {
@@ -70,13 +84,21 @@ impl Simulation {
             validator: Saying::new(),
             said: vec![0x14],
             refusals: 0,
+            spoilt: VecDeque::new(),
+            cleared: false,
         }
+    }
+
+    /// A bench on which the dispenser's cable is loose. It needs some time: 95,200 ms are 288 bytes.
+    pub fn loose(seed: u64) -> Simulation {
+        let simulation = Simulation::new(seed);
+        Simulation { temper: Temper::Loose, busy: Busy::Dispenser, ..simulation }
     }
 
     /// Runs until so many bytes are recorded, or a few more: the last record is whole.
     pub fn run(mut self, length: usize) -> Vec<u8> {
         while self.recorded.len() < length {
-            if self.random.once_in(60) {
+            if self.random.once_in(if self.temper == Temper::Loose { 1_000 } else { 60 }) {
                 self.busy = self.random.pick(&[Busy::Dispenser, Busy::Validator, Busy::Both]);
             }
             self.step();
@@ -85,6 +107,9 @@ impl Simulation {
     }
 
     fn step(&mut self) {
+        if self.clears() {
+            return self.record(Record::Clear);
+        }
         let now = self.now;
         if let Some(&(due, byte)) = self.dispenser.front() {
             if due <= now {
@@ -104,17 +129,33 @@ impl Simulation {
         if self.busy != Busy::Validator && self.request() {
             return;
         }
-        if self.random.once_in(150) {
+        if self.random.once_in(if self.temper == Temper::Loose { 1_000 } else { 150 }) {
             return self.stray();
         }
         let ms = self.pause();
         self.record(Record::Tick(ms));
     }
 
+    /// Whether the operator calls clear: mostly once payouts have stopped and the line is quiet, and now and then at any time,
+    /// or again at once.
+    fn clears(&mut self) -> bool {
+        let session = &self.host.dispenser;
+        let quiet = session.quiet().is_some_and(|(quiet, needed)| quiet >= needed);
+        let one_in = match session.unknowns() {
+            _ if self.cleared => 4,
+            Session::UNKNOWNS.. if quiet => 8,
+            _ if session.quiet().is_none() => 50,
+            _ if self.temper == Temper::Loose => 600,
+            _ => 250,
+        };
+        self.random.once_in(one_in)
+    }
+
     /// A dispenser request, where one is due or somebody cannot wait.
     fn request(&mut self) -> bool {
         let due = match self.host.dispenser.quiet() {
             Some((quiet, needed)) if quiet >= needed => self.random.once_in(2),
+            None if self.temper == Temper::Loose => self.random.once_in(12),
             _ => self.random.once_in(60),
         };
         if due {
@@ -126,13 +167,14 @@ impl Simulation {
 
     fn command(&mut self) -> Command {
         let random = &mut self.random;
-        let code = match random.below(10) {
+        let code = match random.below(11) {
+            _ if self.temper == Temper::Loose => loose_code(random, self.host.dispenser.unknowns()),
             0..=1 => Code::PayUpper,
             2 => Code::PayLower,
             3..=4 => Code::PayBoth,
             5 => Code::TestUpper,
             6 => Code::TestLower,
-            7 => Code::Status,
+            7..=8 => Code::Status,
             _ => random.pick(&Code::ALL),
         };
         let mut count = || match random.below(8) {
@@ -207,7 +249,9 @@ impl Simulation {
                 recording::write(recording::VALIDATOR_BYTE, &[u32::from(b)], &mut self.recorded)
             }
             Record::Ask(c) => recording::write(recording::ASK, &[u32::from(c.byte())], &mut self.recorded),
+            Record::Clear => recording::write(recording::CLEAR, &[], &mut self.recorded),
         }
+        self.cleared = record == Record::Clear;
         let played = self.host.play(record, &mut self.rooms);
         if matches!(played, Played::Declined(_)) {
             return;
@@ -237,6 +281,8 @@ impl Simulation {
             Temper::Usual => self.random.once_in(6),
             Temper::Rough => !self.random.once_in(3),
             Temper::Stubborn => !self.random.once_in(8),
+            // what a loose cable does is told apart
+            Temper::Loose => false,
         }
     }
 
@@ -249,6 +295,9 @@ impl Simulation {
         if self.refusals > 0 {
             self.refusals -= 1;
             return self.dispenser.push_back((soon, 0x15));
+        }
+        if self.temper == Temper::Loose {
+            return self.handed_on_a_loose_cable(soon);
         }
         if !self.errs() {
             self.dispenser.push_back((soon, 0x06));
@@ -278,6 +327,54 @@ impl Simulation {
         }
     }
 
+    /// The dispenser has a command's frame, if the cable let it through: lost in one of the ways to an unknown closing, refused
+    /// or answered.
+    fn handed_on_a_loose_cable(&mut self, soon: u64) {
+        self.spoilt.clear();
+        let (lost, refused) = if self.command.code.pays() { (5, 7) } else { (3, 6) };
+        let fate = self.random.below(9);
+        if fate >= refused {
+            self.dispenser.push_back((soon, 0x06));
+            let answer = self.answer();
+            return self.dispenser.extend(answer.into_iter().map(|byte| (soon, byte)));
+        }
+        if fate >= lost {
+            self.refusals = self.random.pick(&[0, 1, 2, 3, 3, 3]);
+            return self.dispenser.push_back((soon, 0x15));
+        }
+        let some = self.random.pick(&[Spoilt::Garbled, Spoilt::CutOff]);
+        match self.random.below(if self.command.code.pays() { 7 } else { 6 }) {
+            0 => {
+                let byte = self.random.pick(&[0x00, 0x01, 0x04, 0x05, 0x86, 0xFF]);
+                return self.dispenser.push_back((soon, byte));
+            }
+            1..=2 => return,
+            3 => self.spoilt.extend(&[some, some][..self.random.within(1, 2) as usize]),
+            4 => self.spoilt.extend([some, some, Spoilt::Garbled]),
+            5 => self.spoilt.extend([some, some, Spoilt::CutOff]),
+            _ => {}
+        }
+        self.dispenser.push_back((soon, 0x06));
+        self.spoilt_answer(soon);
+    }
+
+    /// The next answer that a loose cable spoils, if there is one.
+    fn spoilt_answer(&mut self, at: u64) {
+        let Some(spoilt) = self.spoilt.pop_front() else { return };
+        let mut frame = self.answer();
+        let last = frame.len() - 1;
+        match spoilt {
+            Spoilt::Garbled => {
+                self.spoil(&mut frame);
+                if read_answer(&frame).is_ok() {
+                    frame[last] ^= 1 << self.random.below(8);
+                }
+            }
+            Spoilt::CutOff => frame.truncate(self.random.within(1, last as u32) as usize),
+        }
+        self.dispenser.extend(frame.into_iter().map(|byte| (at, byte)));
+    }
+
     /// The answer that follows a 06h given at `from`.
     fn dispenser_answers(&mut self, from: u64) {
         let work = match self.random.below(12) {
@@ -290,6 +387,9 @@ impl Simulation {
 
     /// The dispenser heard our 15h: its answer again.
     fn dispenser_says(&mut self) {
+        if self.temper == Temper::Loose {
+            return self.spoilt_answer(self.now);
+        }
         if !self.dispenser.is_empty() && self.random.once_in(3) {
             // or it did not, and goes on with what it was saying
             return;
@@ -539,5 +639,14 @@ impl Simulation {
             6 => vec![0x81, self.random.below(25) as u8],
             _ => vec![self.random.byte(), self.random.byte()],
         }
+    }
+}
+
+/// What is asked of a dispenser with a loose cable: mostly payouts, and other commands between two of them.
+fn loose_code(random: &mut Random, unknowns: u32) -> Code {
+    if random.once_in(if unknowns == 1 { 2 } else { 3 }) {
+        random.pick(&[Code::Purge, Code::Status, Code::TestUpper, Code::TestLower])
+    } else {
+        random.pick(&[Code::PayUpper, Code::PayLower, Code::PayBoth])
     }
 }

@@ -1,4 +1,5 @@
-//! "The dispenser session": one command at a time, its hand-overs, its waits and its closing.
+//! "The dispenser session": one command at a time, its hand-overs, its waits and its closing; the stop after two unknowns
+//! (Q-9 of document 02).
 
 use crate::account::Account;
 use crate::dispenser_frame::{self, Answer, Code, Command, ANSWER};
@@ -17,6 +18,7 @@ pub enum Declined {
     Quiet,
     Spent,
     Tick,
+    Stopped,
 }
 
 impl Declined {
@@ -28,6 +30,7 @@ impl Declined {
             Declined::Quiet => 4,
             Declined::Spent => 5,
             Declined::Tick => 6,
+            Declined::Stopped => 7,
         }
     }
 }
@@ -109,6 +112,8 @@ pub struct Session {
     gathered: usize,
     frame: [u8; ANSWER],
     accepted: u32,
+    /// How many paying requests in succession have closed unknown.
+    unknowns: u32,
     account: Account,
 }
 
@@ -122,6 +127,7 @@ impl Session {
     pub const HAND_OVERS: u32 = 4;
     pub const NAKS: u32 = 3;
     pub const COMMANDS: u32 = 1_000_000;
+    pub const UNKNOWNS: u32 = 2;
     pub const ROOM: usize = 16;
 
     /// "A fresh session has zero sums, no open command and zero quiet time."
@@ -136,6 +142,7 @@ impl Session {
             gathered: 0,
             frame: [0; ANSWER],
             accepted: 0,
+            unknowns: 0,
             account: Account::default(),
         }
     }
@@ -153,7 +160,26 @@ impl Session {
         self.phase
     }
 
-    /// "the lowest that applies is given"
+    /// How many paying requests in succession have closed unknown.
+    pub fn unknowns(&self) -> u32 {
+        self.unknowns
+    }
+
+    /// "Two paying requests in succession which closed unknown mean a cable is out."
+    pub fn is_stopped(&self) -> bool {
+        self.unknowns >= Session::UNKNOWNS
+    }
+
+    /// "Clear is refused with 3 while a command is open, else starts the succession afresh and changes no sum."
+    pub fn clear(&mut self) -> Result<(), Declined> {
+        if self.phase != Phase::Idle {
+            return Err(Declined::Open);
+        }
+        self.unknowns = 0;
+        Ok(())
+    }
+
+    /// "the lowest that applies is given"; "paying requests get the new number 7, after number 5 in order"
     pub fn request(&mut self, command: Command, room: &mut [u8]) -> Result<Step, Declined> {
         large_enough(room, Session::ROOM)?;
         if !command.is_sendable() {
@@ -167,6 +193,9 @@ impl Session {
         }
         if self.accepted >= Session::COMMANDS {
             return Err(Declined::Spent);
+        }
+        if self.is_stopped() && command.code.pays() {
+            return Err(Declined::Stopped);
         }
         self.accepted += 1;
         self.command = command;
@@ -247,6 +276,7 @@ impl Session {
             NAK if self.hand_overs < Session::HAND_OVERS => self.hand_over(room),
             NAK => {
                 self.account.refused();
+                self.closed_known();
                 self.close(0, Closing::Refused)
             }
             _ => self.lost(0, Unknown::OtherByte),
@@ -262,6 +292,7 @@ impl Session {
         match dispenser_frame::read_answer(frame) {
             Ok((answer, error)) => {
                 self.account.answered(answer);
+                self.closed_known();
                 self.close(reply(ACK, room), Closing::Answered(answer, error))
             }
             Err(_) => self.bad(Unknown::ThirdBad, room),
@@ -279,8 +310,18 @@ impl Session {
         Step { put, closing: None }
     }
 
+    /// "Status, purge and test .. do not break the succession; an answered or refused payout does."
+    fn closed_known(&mut self) {
+        if self.command.code.pays() {
+            self.unknowns = 0;
+        }
+    }
+
     fn lost(&mut self, put: usize, how: Unknown) -> Step {
         self.account.lost();
+        if self.command.code.pays() {
+            self.unknowns += 1;
+        }
         let step = self.close(put, Closing::Unknown(how));
         self.limit = Session::QUIET_AFTER_UNKNOWN;
         step
@@ -595,6 +636,221 @@ mod tests {
             sums.push(*host.session.account());
         }
         assert!(sums.iter().all(|account| *account == sums[0]));
+    }
+
+    const OTHERS: [Code; 4] = [Code::Purge, Code::Status, Code::TestUpper, Code::TestLower];
+
+    fn plain(code: Code) -> Command {
+        Command { code, upper: 0, lower: 0 }
+    }
+
+    fn paying(code: Code) -> Command {
+        let count = |pays: bool| if pays { 10 } else { 0 };
+        Command { code, upper: count(code != Code::PayLower), lower: count(code != Code::PayUpper) }
+    }
+
+    /// A good answer to a command with this code, or 15h to each hand-over, or a byte that makes it unknown.
+    fn closed(host: &mut Host, command: Command, how: Closing) {
+        host.pass(95_200);
+        assert_eq!(host.request(command), Ok(handed_over(command)));
+        let counted = Counted { chk: 10, exit: 10, state: 0x30, rejects: 0 };
+        let (_, closing) = match how {
+            Closing::Answered(..) => host.hear(&[vec![ACK], answer(command.code, counted, counted, 0x30)].concat()),
+            Closing::Refused => host.hear(&[NAK; 4]),
+            Closing::Unknown(_) => host.byte(0x00),
+        };
+        match how {
+            Closing::Answered(..) => assert!(matches!(closing, Some(Closing::Answered(..)))),
+            _ => assert_eq!(closing, Some(how)),
+        }
+    }
+
+    const ANSWERED: Closing = Closing::Answered(Answer::Purged, ErrorClass::Fine);
+    const UNKNOWN: Closing = Closing::Unknown(Unknown::OtherByte);
+
+    /// Whether a paying request gets number 7, once the line has been quiet for long.
+    fn is_stopped(host: &Host) -> bool {
+        let mut host = host.clone();
+        host.pass(95_200);
+        match host.request(TEN) {
+            Ok(_) => false,
+            Err(why) => {
+                assert_eq!(why.number(), 7);
+                true
+            }
+        }
+    }
+
+    fn after(closings: &[(Command, Closing)]) -> Host {
+        let mut host = Host::fresh();
+        for &(command, how) in closings {
+            closed(&mut host, command, how);
+        }
+        host
+    }
+
+    #[test]
+    fn two_paying_requests_that_closed_unknown_stop_every_payout() {
+        assert!(!is_stopped(&after(&[(TEN, UNKNOWN)])));
+        for one in [Code::PayUpper, Code::PayLower, Code::PayBoth] {
+            for other in [Code::PayUpper, Code::PayLower, Code::PayBoth] {
+                let mut host = after(&[(paying(one), UNKNOWN), (paying(other), UNKNOWN)]);
+                let before = host.session.account;
+                host.pass(95_200);
+                for code in [Code::PayUpper, Code::PayLower, Code::PayBoth] {
+                    assert_eq!(host.request(paying(code)), Err(Declined::Stopped));
+                }
+                assert_eq!(host.session.account, before);
+                for code in OTHERS {
+                    assert!(host.clone().request(plain(code)).is_ok());
+                }
+            }
+        }
+    }
+
+    #[test]
+    fn every_way_to_an_unknown_closing_counts() {
+        let mut bad = ten(10);
+        bad[13] ^= 1;
+        let late = |host: &mut Host| {
+            host.byte(START);
+            host.pass(200)
+        };
+        for way in 0..6 {
+            let mut host = after(&[(TEN, UNKNOWN)]);
+            host.pass(95_200);
+            host.request(TEN).unwrap();
+            if way > 1 {
+                host.byte(ACK);
+            }
+            let (_, closing) = match way {
+                0 => host.byte(START),
+                1 => host.pass(5_050),
+                2 => host.pass(90_000),
+                3 => {
+                    host.hear(&bad);
+                    host.pass(5_050)
+                }
+                4 => host.hear(&[&bad[..], &bad, &bad].concat()),
+                _ => {
+                    late(&mut host);
+                    late(&mut host);
+                    late(&mut host)
+                }
+            };
+            let ways = [
+                Unknown::OtherByte,
+                Unknown::Silence,
+                Unknown::NoStart,
+                Unknown::NoStartAgain,
+                Unknown::ThirdBad,
+                Unknown::ThirdLate,
+            ];
+            assert_eq!(closing, Some(Closing::Unknown(ways[way])));
+            assert!(is_stopped(&host));
+        }
+    }
+
+    #[test]
+    fn an_answered_or_refused_payout_breaks_the_succession() {
+        for how in [ANSWERED, Closing::Refused] {
+            for code in [Code::PayUpper, Code::PayLower, Code::PayBoth] {
+                let mut host = after(&[(TEN, UNKNOWN), (paying(code), how), (TEN, UNKNOWN)]);
+                assert!(!is_stopped(&host));
+                closed(&mut host, TEN, UNKNOWN);
+                assert!(is_stopped(&host));
+            }
+        }
+    }
+
+    #[test]
+    fn other_commands_neither_break_nor_lengthen_it_nor_end_the_stop() {
+        for code in OTHERS {
+            for how in [ANSWERED, Closing::Refused, UNKNOWN] {
+                let other = (plain(code), how);
+                assert!(!is_stopped(&after(&[other, other, other])));
+                assert!(!is_stopped(&after(&[(TEN, UNKNOWN), other, other])));
+                assert!(is_stopped(&after(&[(TEN, UNKNOWN), other, (TEN, UNKNOWN)])));
+                assert!(is_stopped(&after(&[(TEN, UNKNOWN), (TEN, UNKNOWN), other, other])));
+            }
+        }
+    }
+
+    #[test]
+    fn a_declined_request_neither_breaks_nor_lengthens_it() {
+        let none = Command { code: Code::PayUpper, upper: 0, lower: 0 };
+        let mut host = after(&[(TEN, UNKNOWN)]);
+        assert_eq!(host.request(none), Err(Declined::Range));
+        assert_eq!(host.request(TEN), Err(Declined::Quiet));
+        assert!(!is_stopped(&host));
+        host.pass(95_200);
+        host.request(TEN).unwrap();
+        assert_eq!(host.request(TEN), Err(Declined::Open));
+        host.byte(0x00);
+        host.pass(95_200);
+        for _ in 0..3 {
+            assert_eq!(host.request(TEN), Err(Declined::Stopped));
+        }
+        assert!(is_stopped(&host));
+    }
+
+    #[test]
+    fn the_numbers_before_7_hide_it() {
+        let mut host = after(&[(TEN, UNKNOWN), (TEN, UNKNOWN)]);
+        let none = Command { code: Code::PayUpper, upper: 0, lower: 0 };
+        assert_eq!(host.session.request(TEN, &mut [0; 15]), Err(Declined::Room));
+        assert_eq!(host.request(none), Err(Declined::Range));
+        assert_eq!(host.request(TEN), Err(Declined::Quiet));
+        host.pass(95_199);
+        assert_eq!(host.request(TEN), Err(Declined::Quiet));
+        host.pass(1);
+        assert_eq!(host.request(TEN), Err(Declined::Stopped));
+        assert_eq!(host.request(none), Err(Declined::Range));
+        let mut spent = host.clone();
+        spent.session.accepted = Session::COMMANDS;
+        assert_eq!(spent.request(TEN), Err(Declined::Spent));
+        assert!(host.request(plain(Code::Status)).is_ok());
+        assert_eq!(host.request(TEN), Err(Declined::Open));
+    }
+
+    #[test]
+    fn clear_starts_the_succession_afresh_and_changes_nothing_else() {
+        for unknowns in 0..3 {
+            let mut host = after(&vec![(TEN, UNKNOWN); unknowns]);
+            host.pass(40_000);
+            let (quiet, account) = (host.session.quiet(), host.session.account);
+            assert_eq!(host.session.clear(), Ok(()));
+            assert_eq!(host.session.clear(), Ok(()));
+            assert_eq!((host.session.quiet(), host.session.account), (quiet, account));
+            if unknowns > 0 {
+                // neither does the quiet time begin anew, nor are the 95,200 ms shortened
+                host.pass(55_199);
+                assert_eq!(host.request(TEN), Err(Declined::Quiet));
+                host.pass(1);
+                assert!(host.clone().request(TEN).is_ok());
+            }
+            closed(&mut host, TEN, UNKNOWN);
+            assert!(!is_stopped(&host));
+            closed(&mut host, TEN, UNKNOWN);
+            assert!(is_stopped(&host));
+        }
+    }
+
+    #[test]
+    fn clear_is_refused_with_3_while_a_command_is_open() {
+        for code in [Code::Status, Code::TestLower] {
+            let mut host = after(&[(TEN, UNKNOWN), (TEN, UNKNOWN)]);
+            host.pass(95_200);
+            host.request(plain(code)).unwrap();
+            let before = format!("{:?}", host.session);
+            assert_eq!(host.session.clear(), Err(Declined::Open));
+            assert_eq!(format!("{:?}", host.session), before);
+            host.hear(&[NAK; 4]);
+            assert!(is_stopped(&host));
+            assert_eq!(host.session.clear(), Ok(()));
+            assert!(!is_stopped(&host));
+        }
+        assert_eq!(opened(TEN).session.clear(), Err(Declined::Open));
     }
 
     #[test]

@@ -46,6 +46,12 @@ impl Code {
         }
     }
 
+    /// Whether a command with this code pays.
+    #[inline]
+    pub fn pays(self) -> bool {
+        matches!(self, Code::PayUpper | Code::PayLower | Code::PayBoth)
+    }
+
     /// The column "Answer bytes".
     #[inline]
     pub fn answer_length(self) -> usize {

@@ -11,6 +11,8 @@ use crate::validator;
 pub enum Family {
     /// A bench at work.
     Plausible,
+    /// The same, with a loose cable: payouts are lost in succession.
+    Loose,
     /// The same, with bytes changed, lost, added, moved or doubled.
     Damaged,
     /// Records of every kind with numbers around every limit.
@@ -24,12 +26,20 @@ pub enum Family {
 }
 
 impl Family {
-    pub const ALL: [Family; 6] =
-        [Family::Plausible, Family::Damaged, Family::Records, Family::Bytes, Family::Short, Family::Long];
+    pub const ALL: [Family; 7] = [
+        Family::Plausible,
+        Family::Loose,
+        Family::Damaged,
+        Family::Records,
+        Family::Bytes,
+        Family::Short,
+        Family::Long,
+    ];
 
     pub fn name(self) -> &'static str {
         match self {
             Family::Plausible => "plausible",
+            Family::Loose => "loose",
             Family::Damaged => "damaged",
             Family::Records => "records",
             Family::Bytes => "bytes",
@@ -41,10 +51,11 @@ impl Family {
     /// The families take turns: of a hundred recordings, so many of each.
     fn of(index: u64) -> Family {
         match index * 37 % 100 {
-            0..=54 => Family::Plausible,
-            55..=74 => Family::Damaged,
-            75..=84 => Family::Records,
-            85..=88 => Family::Bytes,
+            0..=44 => Family::Plausible,
+            45..=56 => Family::Loose,
+            57..=76 => Family::Damaged,
+            77..=86 => Family::Records,
+            87..=88 => Family::Bytes,
             89..=98 => Family::Short,
             _ => Family::Long,
         }
@@ -58,26 +69,15 @@ pub fn recording(seed: u64, index: u64) -> (Family, Vec<u8>) {
     let family = Family::of(index);
     let bytes = match family {
         Family::Plausible => plausible(random),
+        Family::Loose => loose(random),
         Family::Damaged => damaged(random),
         Family::Records => records(random),
         Family::Bytes => any(random, 200),
         Family::Short => short(random),
         Family::Long => long(random),
     };
-    (family, without_kind_5(bytes))
+    (family, bytes)
 }
-
-/// Kind 5 is unknown today, but document 02 will make it a record: the recording's first bad record is of another kind.
-fn without_kind_5(mut bytes: Vec<u8>) -> Vec<u8> {
-    let bad = recording::records(&bytes).ok().and_then(|mut records| records.find_map(Result::err));
-    if let Some(bad) = bad.filter(|bad| bytes[bad.at] == 5) {
-        bytes[bad.at] = UNKNOWN;
-    }
-    bytes
-}
-
-/// A kind that will stay unknown.
-const UNKNOWN: u8 = 0xFF;
 
 fn plausible(random: &mut Random) -> Vec<u8> {
     let length = match random.below(10) {
@@ -88,10 +88,20 @@ fn plausible(random: &mut Random) -> Vec<u8> {
     Simulation::new(random.word()).run(length as usize)
 }
 
+fn loose(random: &mut Random) -> Vec<u8> {
+    let length = random.within(1_200, 4_000);
+    let mut bytes = Simulation::loose(random.word()).run(length as usize);
+    if random.once_in(10) {
+        recording::write(recording::CLEAR, &[], &mut bytes);
+    }
+    bytes
+}
+
 fn damaged(random: &mut Random) -> Vec<u8> {
     let length = random.within(20, 800);
-    let mut bytes = Simulation::new(random.word()).run(length as usize);
-    if random.once_in(2) {
+    let bench = if random.once_in(8) { Simulation::loose } else { Simulation::new };
+    let mut bytes = bench(random.word()).run(length as usize);
+    if random.below(5) < 3 {
         wrong(random, &mut bytes);
         return bytes;
     }
@@ -136,7 +146,7 @@ fn records(random: &mut Random) -> Vec<u8> {
 }
 
 fn record(random: &mut Random, bytes: &mut Vec<u8>) {
-    match random.below(59) {
+    match random.below(67) {
         0..=9 => {
             let code = if random.once_in(40) { random.byte() } else { random.pick(&Code::ALL).byte() };
             let (upper, lower) = (value(random), value(random));
@@ -155,6 +165,7 @@ fn record(random: &mut Random, bytes: &mut Vec<u8>) {
             let byte = if random.once_in(60) { value(random) } else { u32::from(line_byte(random)) };
             recording::write(recording::VALIDATOR_BYTE, &[byte], bytes);
         }
+        45..=52 => recording::write(recording::CLEAR, &[], bytes),
         _ => {
             let code = if random.once_in(60) { 0x34 } else { random.pick(&validator::Command::ALL).byte() };
             recording::write(recording::ASK, &[u32::from(code)], bytes);
@@ -165,19 +176,19 @@ fn record(random: &mut Random, bytes: &mut Vec<u8>) {
 /// A record that makes the recording bad, as the last one, and perhaps bytes behind it.
 fn wrong(random: &mut Random, bytes: &mut Vec<u8>) {
     let request = u32::from(random.pick(&Code::ALL).byte());
-    match random.below(12) {
-        0..=5 => {
+    match random.below(14) {
+        0..=6 => {
             // in each place that a number can have
             let (kind, before) = random.pick(&[(0, 0), (0, 1), (0, 2), (1, 0), (2, 0), (3, 0), (4, 0)]);
             recording::write(kind, &[request, value(random)][..before], bytes);
             wrong_number(random, bytes);
         }
-        6..=7 => {
-            let kind = [random.within(6, 15) as u8, random.within(16, 254) as u8, UNKNOWN];
+        7..=8 => {
+            let kind = [random.within(6, 15) as u8, random.within(16, 254) as u8, 0xFF];
             bytes.push(random.pick(&kind));
             bytes.extend(any(random, 4));
         }
-        8..=9 => {
+        9..=10 => {
             // good but for what is above its eight lowest bits
             let above = 256 * random.pick(&[1, 2, 127, 0x00FF_FFFF]);
             let ask = u32::from(random.pick(&validator::Command::ALL).byte());
@@ -258,7 +269,9 @@ fn short(random: &mut Random) -> Vec<u8> {
             bytes
         }
         // bytes that a kind or a number could be
-        _ => (0..random.below(9)).map(|_| random.pick(&[0, 1, 2, 3, 4, 0x33, 0x45, 0x80, 0xFF, 0x0F, 0x10])).collect(),
+        _ => {
+            (0..random.below(9)).map(|_| random.pick(&[0, 1, 2, 3, 4, 5, 0x33, 0x45, 0x80, 0xFF, 0x0F, 0x10])).collect()
+        }
     }
 }
 
@@ -298,17 +311,6 @@ mod tests {
             assert_eq!(recording(1, index), recording(1, index));
         }
         assert_ne!(recording(1, 0), recording(2, 0));
-    }
-
-    #[test]
-    fn no_recording_has_a_record_of_kind_5() {
-        assert_eq!(without_kind_5(vec![2, 5, 5, 5]), [2, 5, UNKNOWN, 5]);
-        for index in 0..1_000 {
-            let (_, bytes) = recording(2, index);
-            if let Err(bad) = crate::replay::replay(&bytes) {
-                assert_ne!(bytes[bad.at], 5, "recording {index}");
-            }
-        }
     }
 
     #[test]

@@ -36,3 +36,4 @@ pub mod reach;
 pub mod shrink;
 pub mod watch;
 pub mod wide_sheet;
+pub mod wrong_stops;

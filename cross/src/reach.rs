@@ -59,6 +59,20 @@ places! {
         "a status answer of another class" "a purge answer of another class" "a bad frame of another class" "a refused closing"
         "an unknown closing";
     LastErrorSet = 100, "last error: set by": "pay both on the lower" "pay both on the upper" "76h" "77h";
+    StopMade = 100, "stop: made by two unknown payouts":
+        "not by one" "before a third" "45h" "55h" "56h" "another first byte" "no first byte" "no answer after 06h"
+        "no answer after our 15h" "third 15h, bad frame" "third 15h, late frame";
+    StopNotMade = 100, "stop: not made with the help of": "an unknown status, purge or test" "a declined payout";
+    StopBroken = 100, "stop: not made, since between two unknowns there was": "an answered payout" "a refused payout" "a clear";
+    StopNotBroken = 100, "stop: made all the same, between two unknowns there was":
+        "an answered status, purge or test" "a refused one" "an unknown one" "a declined payout" "a refused clear";
+    StopLifted = 100, "stop: lifted by a clear": "and a payout taken" "and two more unknowns needed";
+    StopNotLifted = 100, "stop: not lifted by":
+        "an answered status, purge or test" "a refused one" "an unknown one" "a declined payout" "a refused clear";
+    TakenWhileStopped = 100, "stop: taken all the same": "44h" "46h" "76h" "77h";
+    ClearTaken = 100, "clear: taken": "with nothing to clear" "before the line is quiet" "while a validator command is open";
+    ClearLeaves = 100, "clear: leaves": "the quiet time" "the 95,200 ms";
+    ClearRefused = 100, "clear: refused while there is open": "a payout" "another command" "another command, while stopped";
     Acknowledged = 100, "validator: acknowledged";
     RefusedByNak = 100, "validator: refused by NAK";
     Illegal = 100, "validator: illegal";
@@ -83,8 +97,11 @@ places! {
     Declined4Dispenser = 100, "declined: 4, dispenser";
     Declined4Validator = 100, "declined: 4, validator";
     Declined6 = 100, "declined: 6";
+    Declined7 = 100, "declined: 7": "45h" "55h" "56h";
+    Hidden7 = 100, "declined: 7 hidden by": "2" "3" "4";
     Good = 100, "recording: good";
     GoodNumber = 100, "recording: good, a number of so many groups": "one" "two" "three" "four" "five";
+    GoodClear = 100, "recording: good, kind 5": "at the end" "before another record";
     Bad21 = 100, "recording: bad 21, the wrong number": "code" "upper" "lower" "of kind 1" "of kind 2" "of kind 3" "of kind 4";
     Bad22 = 100, "recording: bad 22";
     WrongNumber = 100, "recording: bad 21 or 22, form of the wrong number":

@@ -19,6 +19,8 @@ pub enum Record {
     ValidatorByte(u8),
     /// Kind 4: a validator request.
     Ask(validator::Command),
+    /// Kind 5: the operator's clear call, "with no further number" (Q-9 of document 02).
+    Clear,
 }
 
 pub const REQUEST: u8 = 0;
@@ -26,6 +28,7 @@ pub const DISPENSER_BYTE: u8 = 1;
 pub const TICK: u8 = 2;
 pub const VALIDATOR_BYTE: u8 = 3;
 pub const ASK: u8 = 4;
+pub const CLEAR: u8 = 5;
 
 /// Why a recording is bad.
 #[derive(Clone, Copy, Debug, PartialEq, Eq)]
@@ -108,6 +111,7 @@ impl Records<'_> {
                 let code = self.number()?;
                 Ok(Record::Ask(validator::Command::of(code).ok_or(Fault::Unknown)?))
             }
+            CLEAR => Ok(Record::Clear),
             _ => Err(Fault::Unknown),
         }
     }
@@ -153,6 +157,15 @@ mod tests {
         assert_eq!(first(&[2, 0xE8, 0x07]), Ok(Record::Tick(1_000)));
         assert_eq!(first(&[3, 0x02]), Ok(Record::ValidatorByte(2)));
         assert_eq!(first(&[4, 0x33]), Ok(Record::Ask(validator::Command::Poll)));
+        assert_eq!(first(&[5]), Ok(Record::Clear));
+    }
+
+    #[test]
+    fn a_clear_has_no_number() {
+        let mut all = records(&[5, 5, 2, 1, 5, 0x80, 0x00]).unwrap();
+        let good = [Record::Clear, Record::Clear, Record::Tick(1), Record::Clear];
+        assert!(good.iter().all(|&record| all.next() == Some(Ok(record))));
+        assert_eq!(all.next(), Some(bad(Fault::Unknown, 5)));
     }
 
     #[test]

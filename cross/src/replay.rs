@@ -22,7 +22,7 @@ impl Rooms {
     pub fn to_dispenser(&self, played: Played) -> &[u8] {
         match played {
             Played::Dispenser(step) | Played::Both(step, _) => &self.dispenser[..step.put],
-            Played::Validator(_) | Played::Declined(_) => &[],
+            Played::Validator(_) | Played::Cleared | Played::Declined(_) => &[],
         }
     }
 }
@@ -43,12 +43,13 @@ pub struct Bench {
     pub records: u32,
 }
 
-/// What a record did: each session's own step, or why the record was declined.
+/// What a record did: each session's own step, that the succession starts afresh, or why the record was declined.
 #[derive(Clone, Copy, Debug, PartialEq, Eq)]
 pub enum Played {
     Dispenser(dispenser::Step),
     Validator(validator::Step),
     Both(dispenser::Step, validator::Step),
+    Cleared,
     Declined(Declined),
 }
 
@@ -87,6 +88,10 @@ impl Bench {
             Record::Tick(ms) => Played::Both(self.dispenser.tick(ms, dispenser)?, self.validator.tick(ms, validator)?),
             Record::ValidatorByte(byte) => Played::Validator(self.validator.byte(byte, validator)?),
             Record::Ask(command) => Played::Validator(self.validator.request(command, validator)?),
+            Record::Clear => {
+                self.dispenser.clear()?;
+                Played::Cleared
+            }
         })
     }
 }

@@ -13,7 +13,8 @@ pub fn report(recording: &[u8]) -> String {
     }
 }
 
-fn lines(bench: &Bench) -> String {
+/// The report of a good recording.
+pub(crate) fn lines(bench: &Bench) -> String {
     let account = bench.dispenser.account();
     let mut text = cassette("upper", &account.upper) + &cassette("lower", &account.lower);
     text += &last_error("upper", bench.last_errors.upper);
@@ -95,6 +96,36 @@ mod tests {
     }
 
     #[test]
+    fn a_clear_is_a_record_and_a_refused_one_is_declined() {
+        assert!(report(&[5]).ends_with("declined 0\nrecords 1\n"));
+        let open = text::recording("tick 1000 x6\npay upper 10\nclear x2\ndispenser 00\nclear\n").unwrap();
+        assert!(report(&open).ends_with("declined 2\nrecords 11\n"));
+        // a validator command is no reason to refuse it
+        assert!(report(&[2, 20, 4, 0x33, 5]).ends_with("declined 0\nrecords 3\n"));
+    }
+
+    #[test]
+    fn a_stopped_payout_is_declined_and_a_cleared_one_taken() {
+        let lost = "tick 1000 x96\npay upper 10\ndispenser 00\n".repeat(2);
+        let stopped = text::recording(&(lost.clone() + "tick 1000 x96\npay lower 5\n")).unwrap();
+        let wanted = "upper asked 20 paid 0 short 0 over 0 refused 0 unknown 20 open 0 rejected 0\n\
+                      lower asked 0 paid 0 short 0 over 0 refused 0 unknown 0 open 0 rejected 0\n\
+                      upper last error none\n\
+                      lower last error none\n\
+                      declined 1\n\
+                      records 293\n";
+        assert_eq!(report(&stopped), wanted);
+        let cleared = text::recording(&(lost + "clear\ntick 1000 x96\npay lower 5\n")).unwrap();
+        let wanted = "upper asked 20 paid 0 short 0 over 0 refused 0 unknown 20 open 0 rejected 0\n\
+                      lower asked 5 paid 0 short 0 over 0 refused 0 unknown 0 open 5 rejected 0\n\
+                      upper last error none\n\
+                      lower last error none\n\
+                      declined 0\n\
+                      records 294\n";
+        assert_eq!(report(&cleared), wanted);
+    }
+
+    #[test]
     fn types_rise_and_stand_before_records() {
         let mut recording = Vec::new();
         for kind in [23, 0, 3] {
@@ -113,9 +144,10 @@ mod tests {
         [vec![0x06], answer(code, counted, counted, error)].concat()
     }
 
-    /// Adds a command on a line that has been quiet for long enough, and what the dispenser says to it.
+    /// Adds a command on a line that has been quiet for long enough, with no succession behind it, and what the dispenser says
+    /// to it.
     fn asked(command: &str, said: &[u8], recording: &mut Vec<u8>) {
-        recording.extend(text::recording(&format!("tick 1000 x96\n{command}")).unwrap());
+        recording.extend(text::recording(&format!("tick 1000 x96\nclear\n{command}")).unwrap());
         for &byte in said {
             crate::recording::write(crate::recording::DISPENSER_BYTE, &[u32::from(byte)], recording);
         }

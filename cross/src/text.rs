@@ -7,6 +7,7 @@
 //! dispenser 06 15                 kind 1 for each byte (in hex)
 //! poll                            kind 4; also reset, stack, return, hold
 //! validator 02 03 06 00 C2 82     kind 3 for each byte (in hex)
+//! clear                           kind 5
 //! raw 02 E8                       the recording's own bytes, for what no record has
 //! ```
 
@@ -58,6 +59,7 @@ fn event(words: &[&str], bytes: &mut Vec<u8>) -> Result<(), String> {
         ["stack"] => write(recording::ASK, &[0x35], bytes),
         ["return"] => write(recording::ASK, &[0x36], bytes),
         ["hold"] => write(recording::ASK, &[0x38], bytes),
+        ["clear"] => write(recording::CLEAR, &[], bytes),
         ["dispenser", ref line @ ..] => each(recording::DISPENSER_BYTE, line, bytes)?,
         ["validator", ref line @ ..] => each(recording::VALIDATOR_BYTE, line, bytes)?,
         ["raw", ref line @ ..] => {
@@ -92,8 +94,9 @@ mod tests {
 
     #[test]
     fn each_line_is_its_records() {
-        let text = "tick 1000 x2 # two seconds\n\npay upper 10\ndispenser 06 95\nraw FF\npoll\nvalidator 02\n";
-        let bytes = [2, 0xE8, 7, 2, 0xE8, 7, 0, 0x45, 10, 0, 1, 6, 1, 0x95, 1, 0xFF, 4, 0x33, 3, 2];
+        let text =
+            "tick 1000 x2 # two seconds\n\npay upper 10\ndispenser 06 95\nraw FF\npoll\nvalidator 02\nclear x2\n";
+        let bytes = [2, 0xE8, 7, 2, 0xE8, 7, 0, 0x45, 10, 0, 1, 6, 1, 0x95, 1, 0xFF, 4, 0x33, 3, 2, 5, 5];
         assert_eq!(recording(text).unwrap(), bytes);
     }
 

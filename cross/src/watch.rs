@@ -11,6 +11,7 @@ use crate::reach::{Place, Reached};
 use crate::recording::{self, Bad, Record};
 use crate::replay::{Bench, Played, Rooms};
 use crate::validator::{self, Bill, Damage};
+use crate::wrong_stops;
 
 /// What a recording reached, or why it is bad.
 pub fn reached(bytes: &[u8]) -> Reached {
@@ -23,6 +24,11 @@ pub fn reached(bytes: &[u8]) -> Reached {
         match record {
             Ok(record) => watch.play(record),
             Err(bad) => return faulty(bytes, bad),
+        }
+    }
+    if watch.may_stop {
+        for (place, part) in wrong_stops::told_apart(bytes, &watch.bench) {
+            watch.all.part(place, part);
         }
     }
     watch.ended()
@@ -154,6 +160,10 @@ struct Watch {
     /// Whether it was closed by silence after a hand-over again.
     silent: bool,
     errors: Errors,
+    /// Whether something happened that the stop after two unknowns is about: a command closed unknown, or a clear.
+    may_stop: bool,
+    /// Whether the last record was a clear.
+    cleared: bool,
 }
 
 impl Watch {
@@ -169,11 +179,16 @@ impl Watch {
             naks: 0,
             silent: false,
             errors: Errors::default(),
+            may_stop: false,
+            cleared: false,
         }
     }
 
     fn ended(mut self) -> Reached {
         self.all.mark(Place::Good);
+        if self.cleared {
+            self.all.part(Place::GoodClear, 0);
+        }
         let account = self.bench.dispenser.account();
         let either = |sum: fn(&Sums) -> u32| sum(&account.upper) > 0 || sum(&account.lower) > 0;
         if either(|sums| sums.over) {
@@ -217,6 +232,10 @@ impl Watch {
     }
 
     fn play(&mut self, record: Record) {
+        if std::mem::replace(&mut self.cleared, record == Record::Clear) {
+            self.all.part(Place::GoodClear, 1);
+        }
+        self.may_stop |= self.cleared;
         let (dispenser, validator) = (self.bench.dispenser.phase(), self.bench.validator.phase());
         let played = self.bench.play(record, &mut self.rooms);
         let heard = self.rooms.to_dispenser(played).first().copied();
@@ -228,6 +247,7 @@ impl Watch {
                 self.dispenser(record, dispenser, one, heard);
                 self.validator(record, validator, other);
             }
+            Played::Cleared => {}
         }
         let numbers: &[u32] = match record {
             Record::Request(command) => &[command.upper, command.lower],
@@ -240,17 +260,52 @@ impl Watch {
     }
 
     fn declined(&mut self, record: Record, why: Declined) {
+        if let Record::Request(command) = record {
+            self.payout_declined(command.code, why);
+        }
         self.all.mark(match (why, record) {
             (Declined::Range, _) => Place::Declined2,
             (Declined::Open, Record::Ask(_)) => Place::Declined3Validator,
+            (Declined::Open, Record::Clear) => return self.clear_refused(),
             (Declined::Open, _) => Place::Declined3Dispenser,
             (Declined::Quiet, Record::Ask(_)) => Place::Declined4Validator,
             (Declined::Quiet, _) => Place::Declined4Dispenser,
             (Declined::Tick, _) => Place::Declined6,
+            (Declined::Stopped, _) => return,
             (Declined::Spent | Declined::Room, _) => {
                 unreachable!("no recording holds 1,000,000 commands, and the rooms are large enough")
             }
         });
+    }
+
+    /// A clear while a command is open.
+    fn clear_refused(&mut self) {
+        let part = match (self.code.pays(), self.bench.dispenser.is_stopped()) {
+            (true, _) => 0,
+            (false, false) => 1,
+            (false, true) => 2,
+        };
+        self.all.part(Place::ClearRefused, part);
+    }
+
+    /// A payout that is asked for while payouts are stopped: 7, or another number that comes first.
+    fn payout_declined(&mut self, code: Code, why: Declined) {
+        if !self.bench.dispenser.is_stopped() {
+            return;
+        }
+        let part = match code {
+            Code::PayUpper => 0,
+            Code::PayLower => 1,
+            Code::PayBoth => 2,
+            _ => return,
+        };
+        match why {
+            Declined::Stopped => self.all.part(Place::Declined7, part),
+            Declined::Range => self.all.part(Place::Hidden7, 0),
+            Declined::Open => self.all.part(Place::Hidden7, 1),
+            Declined::Quiet => self.all.part(Place::Hidden7, 2),
+            _ => {}
+        }
     }
 
     // The dispenser
@@ -407,7 +462,10 @@ impl Watch {
         let answer = match closing {
             Closing::Answered(answer, _) => answer,
             Closing::Refused => return self.errors.refused(self.code),
-            Closing::Unknown(_) => return self.errors.unknown(self.code),
+            Closing::Unknown(_) => {
+                self.may_stop = true;
+                return self.errors.unknown(self.code);
+            }
         };
         if self.hand_overs > 1 {
             self.all.part(Place::HandedOverAgain, self.hand_overs as usize - 2);

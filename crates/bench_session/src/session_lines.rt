@@ -4,6 +4,7 @@
 //     session request, room 16: 45h upper 10 lower 0
 //     session bytes, room 16: 15 06
 //     session ticks, room 16: 1000 times 5
+//     session operator clears:
 //     session commands refused: 999999
 //     session account:
 //
@@ -40,6 +41,9 @@ fn run_others(line: &[u8], letter: u8, session: Session) -> Session {
         print_sums(b"\n    upper", session.account.upper);
         print_sums(b"    lower", session.account.lower);
         return session;
+    }
+    if letter == b'o' {
+        return clear(session);
     }
     sheet::print_text(b"\n");
     Session::fresh()
@@ -139,6 +143,19 @@ fn tick_in(session: Session, ms: u32, size: u32, lent: &mut [u8]) -> Session {
     next
 }
 
+// Clear is lent no room.
+fn clear(session: Session) -> Session {
+    sheet::print_text(b"\n");
+    let outcome = dispenser::clear(session);
+    let next = outcome.session;
+    let reply = outcome.reply;
+    match reply {
+        Reply::NotDone(why) => sheet::print_form(b"    -> refused #\n", &[why.number() as u32]),
+        Reply::Done { put: _, closing } => show_closing(closing),
+    }
+    next
+}
+
 // So many commands accepted, each refused until it closes.
 fn commands(times: u32, session: Session) -> Session {
     sheet::print_form(b" #\n", &[times]);
@@ -161,7 +178,7 @@ fn command(session: Session) -> Session {
 // 15h for each hand-over that a command may have.
 fn refused(session: Session, lent: &mut [u8]) -> Session {
     let mut now = session;
-    let mut k: u64 = 0;
+    let mut k: u32 = 0;
     while k < Session::HAND_OVERS {
         now = dispenser::byte(now, 0x15, lent).session;
         k += 1;

@@ -1,4 +1,4 @@
--- Demand 3 of the two cassettes, what every call answers and the numbers 1 to 6, told from the history: the one theorem, used for the Model 2000T. Assumes nothing.
+-- Demand 3 of the two cassettes, what every call answers and the numbers 1 to 7, told from the history: the one theorem, used for the Model 2000T. Assumes nothing.
 use Prim.Native.Nat.{ℕ, _≤_}
 use mathlib.Core.Path.{_≡_, refl}
 use mathlib.Core.Bool.{true}
@@ -15,14 +15,14 @@ use Rattle.dispenser_frame_rules.specs.declared.answer.Cassette.{Cassette}
 use Rattle.dispenser_frame_rules.specs.declared.answer.Cassette.the-variants.{Upper, Lower}
 use Rattle.exchange_rules.specs.Limits.{commandLimit}
 use Rattle.exchange_rules.specs.Sums.{freshSums}
-use Rattle.exchange_rules.specs.Machine.{request as asks, requestRefusals as refusals, historyRefusals}
+use Rattle.exchange_rules.specs.Machine.{request as asks, clear as clears-line, requestRefusals as refusals, clearRefusals as clear-rules, historyRefusals}
 use Rattle.exchange_rules.specs.Kept.{settled}
 use Rattle.exchange_rules.proofs.Bounds.{bounded-longer}
 use Rattle.exchange_rules.proofs.Keeping.{settled-most}
-use Rattle.exchange_rules.proofs.Demand3.{Kept, new-sound, new-tracks, demand3 as demand3-of, told-by-history as told-of, carried-by-bytes as carried-of, run-kept, alike-at}
-use Rattle.dispenser_rules.specs.Session.{freshSession, requestRefusals, byteRefusals, tickRefusals}
+use Rattle.exchange_rules.proofs.Demand3.{Kept, new-sound, new-tracks, demand3 as demand3-of, told-by-history as told-of, carried-by-bytes as carried-of, run-kept, alike-at, clear-alike}
+use Rattle.dispenser_rules.specs.Session.{freshSession, requestRefusals, byteRefusals, tickRefusals, clearRefusals}
 use Rattle.dispenser_rules.specs.Account.{freshAccount}
-use Rattle.dispenser_rules.specs.Calls.{Call, request, byte, tick, Request, Own, host, history}
+use Rattle.dispenser_rules.specs.Calls.{Call, request, byte, tick, clear, Request, Own, clears, host, history}
 use Rattle.dispenser_rules.specs.Unit.{cassette, unit, box}
 use Rattle.dispenser_rules.specs.History.{TwoCassettes, AlwaysSound, NeverCut, ToldByHistory, CarriedByBytes, DeclinesByHistory}
 use Rattle.dispenser_rules.proofs.Shown.{lawful}
@@ -45,6 +45,10 @@ fresh-kept =
 rises : (h : History Request Own Ending) (q : Request) (r : List ℕ) → rising (historyRefusals unit h (asks q r)) ≡ true
 unfolding historyRefusals
 rises h q r = refl
+
+clear-rises : (h : History Request Own Ending) → rising (historyRefusals unit h (clears-line clears)) ≡ true
+unfolding historyRefusals
+clear-rises h = refl
 
 pub demand3 : TwoCassettes
 demand3 = demand3-of lawful session freshSession fresh-kept
@@ -70,10 +74,13 @@ carried-by-bytes = carried-of lawful session freshSession fresh-kept
 
 -- the numbers of the history
 pub declines-by-history : DeclinesByHistory
-unfolding requestRefusals refusals byteRefusals tickRefusals historyRefusals
+unfolding requestRefusals refusals byteRefusals tickRefusals clearRefusals clear-rules historyRefusals
 declines-by-history cs (request code upper lower r) =
     let s = run host freshSession cs in
     let q : Request = record { code = code; upper = upper; lower = lower } in
     given-alike (exactly-when .request s code upper lower r) (alike-at unit (box s) (history cs) q r (after-calls cs .tracks)) (rises (history cs) q r)
 declines-by-history cs (byte b r) = exactly-when .byte (run host freshSession cs) b r
 declines-by-history cs (tick ms r) = exactly-when .tick (run host freshSession cs) ms r
+declines-by-history cs clear =
+    let s = run host freshSession cs in
+    given-alike (exactly-when .clear s) (clear-alike unit (box s) (history cs) clears (after-calls cs .tracks)) (clear-rises (history cs))

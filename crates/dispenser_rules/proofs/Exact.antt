@@ -1,7 +1,7 @@
 -- Each number is given exactly when 01 says, and a call that is declined leaves everything as it was. Assumes nothing.
 use Prim.Native.Nat.{ℕ}
 use mathlib.Core.Path.{_≡_, refl}
-use mathlib.Core.List.{List}
+use mathlib.Core.List.{List, []}
 use mathlib.Core.Bool.{Bool, true, false, cond}
 use lib.Dec.{eqb}
 use lib.ListN.{set, take}
@@ -11,7 +11,7 @@ use Rattle.dispenser_frame_rules.specs.declared.answer.AnswerRead.the-variants.
 use Rattle.ledger.specs.Calls.{IsDone}
 use Rattle.ledger.proofs.Declining.{told-apart, rising, given-exactly}
 use Rattle.exchange_rules.specs.Exchange.{badFrame, heard, passed}
-use Rattle.dispenser_rules.specs.Session.{StepAfter, refusedStep, refusedOpening, stepAfter, byteAfter, openingAfter, byteRefusals, tickRefusals, requestRefusals, acted, badStep, judgedStep, judgeStep, byteActed, bookedBy, requestBooked, byteStep, tickStep, requestStep, sessionRequest, sessionByte, sessionTick}
+use Rattle.dispenser_rules.specs.Session.{StepAfter, refusedStep, refusedOpening, stepAfter, byteAfter, openingAfter, byteRefusals, tickRefusals, requestRefusals, clearRefusals, acted, badStep, judgedStep, judgeStep, byteActed, bookedBy, requestBooked, byteStep, tickStep, requestStep, clearStep, sessionRequest, sessionByte, sessionTick, sessionClear}
 use Rattle.dispenser_rules.specs.Calls.{returned}
 use Rattle.dispenser_rules.specs.Promises.{ExactlyWhen}
 use Rattle.exchange_rules.specs.declared.line.Line.{Line}
@@ -59,8 +59,12 @@ tick-rises : (ms : ℕ) (r : List ℕ) → rising (tickRefusals ms r) ≡ true
 unfolding tickRefusals
 tick-rises ms r = refl
 
+clear-rises : (l : Line) → rising (clearRefusals l) ≡ true
+unfolding clearRefusals
+clear-rises l = refl
+
 pub exactly-when : ExactlyWhen
-unfolding sessionRequest sessionByte sessionTick requestStep byteStep tickStep
+unfolding sessionRequest sessionByte sessionTick sessionClear requestStep byteStep tickStep clearStep
 exactly-when =
     record {
       request = λ s code upper lower r.
@@ -77,4 +81,8 @@ exactly-when =
           given-exactly told-apart (λ why. stepAfter (refusedStep (s .line) why) r) _
           (λ w. record { session = record { line = w .line; asked = s .asked; account = bookedBy (s .account) (s .asked) (w .reply); store = s .store }; reply = w .reply; room = w .room })
           (tick-rises ms r) (λ why. refl) (λ why. refl) (acted-told (t .todo) (t .line) (s .asked) r);
+      clear = λ s.
+          given-exactly told-apart (refusedStep (s .line)) _
+          (λ w. record { session = record { line = w .line; asked = s .asked; account = s .account; store = s .store }; reply = w .reply; room = [] })
+          (clear-rises (s .line)) (λ why. refl) (λ why. refl) (_, (_, refl));
     }

@@ -7,13 +7,14 @@ use lib.Dec.{eqb}
 use lib.ListN.{set, take}
 use Rattle.refusals.specs.Rules.{Rule, judged, same}
 use Rattle.refusals.proofs.Rules.{either-way}
+use Rattle.ledger.specs.Account.{Ending, answered, refused, unknown}
 use Rattle.ledger.specs.Calls.{After as AfterCall, gave, did}
 use Rattle.dispenser_frame_rules.specs.Table.{answerLength}
 use Rattle.dispenser_frame_rules.specs.Answer.{answerCode, readAnswer}
 use Rattle.dispenser_frame_rules.specs.declared.answer.AnswerRead.{AnswerRead}
 use Rattle.dispenser_frame_rules.specs.declared.answer.AnswerRead.the-variants.{Read, Refused as NotRead}
 use Rattle.exchange_rules.specs.Limits.{quiet}
-use Rattle.exchange_rules.specs.Exchange.{heard, badFrame, passed, closed}
+use Rattle.exchange_rules.specs.Exchange.{heard, badFrame, passed, closed, ends}
 use Rattle.ledger.specs.Told.{good, bad, by-refusal, by-doubt, ending as plain-ending}
 use Rattle.exchange_rules.specs.Machine.{Box, left}
 use Rattle.exchange_rules.specs.Owed.{saying, Session as SessionOver}
@@ -24,8 +25,8 @@ use Rattle.exchange_rules.specs.declared.line.Todo.{Todo}
 use Rattle.exchange_rules.specs.declared.line.Todo.the-variants.{Nothing as Rest, HandOver, Nak, LastNak, CloseRefused, CloseUnknown}
 use Rattle.exchange_rules.specs.declared.line.Heard.{Heard}
 use Rattle.exchange_rules.specs.declared.line.Heard.the-variants.{Keep, Judge, Do}
-use Rattle.dispenser_rules.specs.Session.{StepAfter, ByteAfter, OpeningAfter, After, openingAfter, refusedOpening, byteAfter, stepAfter, refusedStep, doneAfter, acted, badStep, judgedStep, judgeStep, byteActed, byteRefusals, tickRefusals, requestRefusals, byteStep, tickStep, requestStep, bookedBy, requestBooked, sessionRequest, sessionByte, sessionTick}
-use Rattle.dispenser_rules.specs.Calls.{Call, request, byte, tick, called, Request, deed, returned, ending, host}
+use Rattle.dispenser_rules.specs.Session.{pays, clearRefusals, clearStep, sessionClear, StepAfter, ByteAfter, OpeningAfter, After, openingAfter, refusedOpening, byteAfter, stepAfter, refusedStep, doneAfter, acted, badStep, judgedStep, judgeStep, byteActed, byteRefusals, tickRefusals, requestRefusals, byteStep, tickStep, requestStep, bookedBy, requestBooked, sessionRequest, sessionByte, sessionTick}
+use Rattle.dispenser_rules.specs.Calls.{Call, request, byte, tick, clear, called, Request, deed, returned, ending, host}
 use Rattle.dispenser_rules.specs.Unit.{Good, asked-of, verdict, unit, request-of, box, means, lent, plain-closing}
 use Rattle.dispenser_rules.specs.declared.account.Account.{Account}
 use Rattle.dispenser_rules.specs.declared.session.Asked.{Asked}
@@ -34,6 +35,7 @@ use Rattle.dispenser_rules.specs.declared.session.Closing.the-variants.{
 use Rattle.dispenser_rules.specs.declared.session.Reply.{Reply}
 use Rattle.dispenser_rules.specs.declared.session.Reply.the-variants.{NotDone, Done}
 use Rattle.dispenser_rules.specs.declared.session.Session.{Session}
+use Rattle.dispenser_rules.specs.declared.session.Step.{Step}
 
 -- ---- what the shared session has of it
 
@@ -63,13 +65,17 @@ module _ (q : Request) (r : List ℕ) where
   abbrev a : Asked
   a = asked-of q
 
+  -- the line at a closing
+  abbrev counting : Ending → Line → Line
+  counting end m = ends m (pays (q .code)) end
+
   acted-same : (t : Todo) (l : Line) → Shut t l → plain-step (acted t l a r) ≡ machine.acted unit t l q r
   acted-same Rest l e = refl
   acted-same HandOver l e = refl
   acted-same Nak l e = refl
-  acted-same LastNak l e = ap (λ (m : Line). machine.doneAfter m 1 by-doubt (set r 0 0x15)) (sym e)
-  acted-same CloseRefused l e = ap (λ (m : Line). machine.doneAfter m 0 by-refusal r) (sym e)
-  acted-same CloseUnknown l e = ap (λ (m : Line). machine.doneAfter m 0 by-doubt r) (sym e)
+  acted-same LastNak l e = ap (λ (m : Line). machine.doneAfter (counting unknown m) 1 by-doubt (set r 0 0x15)) (sym e)
+  acted-same CloseRefused l e = ap (λ (m : Line). machine.doneAfter (counting refused m) 0 by-refusal r) (sym e)
+  acted-same CloseUnknown l e = ap (λ (m : Line). machine.doneAfter (counting unknown m) 0 by-doubt r) (sym e)
 
   bad-same : (l : Line) → plain-step (badStep l a r) ≡ machine.badStep unit l q r
   unfolding badStep machine.badStep
@@ -79,7 +85,7 @@ module _ (q : Request) (r : List ℕ) where
   judged-same (Read answer class) l = go (eqb (answerCode answer) (q .code))
     where
       go : (t : Bool)
-          → plain-step (cond t (doneAfter (closed l quiet) 1 (Answered answer class) (set r 0 0x06)) (badStep l a r))
+          → plain-step (cond t (doneAfter (ends (closed l quiet) (pays (q .code)) answered) 1 (Answered answer class) (set r 0 0x06)) (badStep l a r))
           ≡ machine.judgedStep unit (cond t (good (record { answer = answer; class = class })) bad) l q r
       go true = refl
       go false = bad-same l
@@ -157,10 +163,17 @@ module _ (l : Line) (q : Request) (x : Account) (store : List ℕ) where
       (step-same r (record { step = acted (t .todo) (t .line) (asked-of q) r; store = store }) _
       (ap (λ (w : machine.StepAfter Good). record { step = w; store = store }) (acted-same q r (t .todo) (t .line) (passed-shut l ms))))
 
+  clear-same : plain-after (sessionClear s) ≡ machine.called-clear unit (box s)
+  unfolding sessionClear clearStep clearRefusals machine.called-clear machine.clearRefusals
+  clear-same =
+      through (λ (w : Step). plain-after (record { session = record { line = w .line; asked = asked-of q; account = x; store = store }; reply = w .reply; room = [] }))
+      (clearRefusals l) (refusedStep l) _
+
   called-same : (c : Call) → plain-after (called s c) ≡ machine.called unit (box s) (means c)
   called-same (request code upper lower r) = request-same code upper lower r
   called-same (byte b r) = heard-same b r
   called-same (tick ms r) = passed-same ms r
+  called-same clear = clear-same
 
 -- a session that keeps it is such a one
 kept-with : (s : Session) → Keeps s → with (s .line) (request-of (s .asked)) (s .account) (s .store) ≡ s
@@ -180,11 +193,13 @@ pub deed-same : (c : Call) → deed c ≡ machine.deed (means c)
 deed-same (request code upper lower r) = refl
 deed-same (byte b r) = refl
 deed-same (tick ms r) = refl
+deed-same clear = refl
 
 pub lent-same : (c : Call) → lent c ≡ machine.lent (means c)
 lent-same (request code upper lower r) = refl
 lent-same (byte b r) = refl
 lent-same (tick ms r) = refl
+lent-same clear = refl
 
 pub ending-same : (c : Closing) → ending c ≡ plain-ending (plain-closing c)
 ending-same Nothing = refl
@@ -193,12 +208,13 @@ ending-same Refused = refl
 ending-same Unknown = refl
 
 pub keeps-next : (s : Session) (c : Call) → Keeps s → Keeps (called s c .session)
-unfolding sessionRequest requestStep sessionByte sessionTick
+unfolding sessionRequest requestStep sessionByte sessionTick sessionClear
 keeps-next s (request code upper lower r) e =
     either-way (λ (w : OpeningAfter). w .asked .span ≡ answerLength (w .asked .code)) (requestRefusals (s .line) code upper lower r)
     (λ why. openingAfter (refusedOpening (s .line) (s .asked) why) r) _ (λ why. e) (λ n. refl)
 keeps-next s (byte b r) e = e
 keeps-next s (tick ms r) e = e
+keeps-next s clear e = e
 
 abbrev pub session : SessionOver unit host
 session =

@@ -14,10 +14,11 @@ use Rattle.dispenser_frame_rules.specs.declared.answer.Answer.{Answer}
 use Rattle.dispenser_frame_rules.specs.declared.answer.AnswerRead.{AnswerRead}
 use Rattle.dispenser_frame_rules.specs.declared.answer.AnswerRead.the-variants.{Read}
 use Rattle.exchange_rules.specs.Limits.{quiet, answerWait, frameWait}
-use Rattle.exchange_rules.specs.Exchange.{isOpen, turn, hearing, opened, closed, starting, inside, waits, firstByte, startByte, insideByte, heardIn, heard, expiredIn, expired, passed}
+use Rattle.exchange_rules.specs.Exchange.{isOpen, turn, hearing, opened, closed, ends, starting, inside, waits, firstByte, startByte, insideByte, heardIn, heard, expiredIn, expired, passed}
 use Rattle.dispenser_rules.specs.Account.{accountOpened, accountAnswered}
-use Rattle.dispenser_rules.specs.Session.{StepAfter, ByteAfter, OpeningAfter, After, openingAfter, refusedOpening, handOver, command, requestRefusals, requestStep, requestBooked, sessionRequest, stepAfter, byteAfter, refusedStep, acted, judgedStep, judgeStep, byteActed, byteRefusals, tickRefusals, byteStep, tickStep, bookedBy, sessionByte, sessionTick}
+use Rattle.dispenser_rules.specs.Session.{pays, StepAfter, ByteAfter, OpeningAfter, After, openingAfter, refusedOpening, handOver, command, requestRefusals, requestStep, requestBooked, sessionRequest, stepAfter, byteAfter, refusedStep, acted, judgedStep, judgeStep, byteActed, byteRefusals, tickRefusals, byteStep, tickStep, bookedBy, sessionByte, sessionTick}
 use Rattle.dispenser_rules.specs.Calls.{host}
+use Rattle.ledger.specs.Account.{answered}
 use Rattle.ledger.specs.Calls.{declinedAfter, Declines}
 use Rattle.refusals.specs.declared.Declined.{Declined}
 use Rattle.exchange_rules.specs.declared.line.Phase.{Phase}
@@ -39,7 +40,7 @@ goes s l store r =
 abbrev pub closes : Session → Answer → ErrorClass → List ℕ → List ℕ → After
 closes s answer class store r =
     record {
-      session = record { line = closed (s .line) quiet; asked = s .asked; account = accountAnswered (s .account) (s .asked) answer; store = store };
+      session = record { line = ends (closed (s .line) quiet) (pays (s .asked .code)) answered; asked = s .asked; account = accountAnswered (s .account) (s .asked) answer; store = store };
       reply = Done 1 (Answered answer class);
       room = set r 0 0x06;
     }
@@ -60,7 +61,7 @@ heard-by s w = left-by s (w .step) (w .store)
 abbrev pub opens : Session → ℕ → ℕ → ℕ → List ℕ → After
 opens s code upper lower r =
     record {
-      session = record { line = opened (s .line .accepted + 1); asked = command code upper lower; account = accountOpened (s .account) (command code upper lower); store = s .store };
+      session = record { line = opened (s .line) (s .line .accepted + 1); asked = command code upper lower; account = accountOpened (s .account) (command code upper lower); store = s .store };
       reply = Done (handOver (command code upper lower) r .put) NoClosing;
       room = handOver (command code upper lower) r .room;
     }

@@ -2,10 +2,10 @@
 -- history, are those of every line (`ledger`).
 use Prim.Native.Nat.{ℕ}
 use mathlib.Core.List.{List, []}
-use Rattle.ledger.specs.Events.{Deed, asks, hears, waits, Left, goes-on, closes, History}
+use Rattle.ledger.specs.Events.{Deed, asks, hears, waits, own, Left, goes-on, closes, History}
 use Rattle.ledger.specs.Account.{Ending, answered, refused, unknown}
 use Rattle.ledger.specs.Calls.{Returned, gave, did, Host, historyFrom}
-use Rattle.dispenser_rules.specs.Session.{After, freshSession, sessionRequest, sessionByte, sessionTick}
+use Rattle.dispenser_rules.specs.Session.{After, freshSession, sessionRequest, sessionByte, sessionTick, sessionClear}
 use Rattle.dispenser_rules.specs.declared.session.Closing.{Closing}
 use Rattle.dispenser_rules.specs.declared.session.Closing.the-variants.{Nothing, Answered, Refused, Unknown}
 use Rattle.dispenser_rules.specs.declared.session.Reply.{Reply}
@@ -17,11 +17,13 @@ pub data Call : Type 0 where
   request : ℕ → ℕ → ℕ → List ℕ → Call
   byte : ℕ → List ℕ → Call
   tick : ℕ → List ℕ → Call
+  clear : Call
 
 abbrev pub called : Session → Call → After
 called s (request code upper lower r) = sessionRequest s code upper lower r
 called s (byte b r) = sessionByte s b r
 called s (tick ms r) = sessionTick s ms r
+called s clear = sessionClear s
 
 -- what a request asks
 pub record Request : Type 0 where
@@ -29,14 +31,15 @@ pub record Request : Type 0 where
   pub upper : ℕ
   pub lower : ℕ
 
--- this line has no calls of its own
-abbrev pub Own : Type 0
-Own = ⊥
+-- the calls that this line has of its own: the operator clears it (02, Q-9)
+pub data Own : Type 0 where
+  clears : Own
 
 abbrev pub deed : Call → Deed Request Own
 deed (request code upper lower r) = asks (record { code = code; upper = upper; lower = lower })
 deed (byte b r) = hears b
 deed (tick ms r) = waits ms
+deed clear = own clears
 
 -- what a call returned
 abbrev pub returned : Reply → Returned Closing

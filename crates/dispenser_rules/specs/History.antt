@@ -1,5 +1,5 @@
 -- What is promised of a session of the Model 2000T after any calls at all from a fresh one, told from their history: demand 3, what every call answers, and the
--- numbers 1 to 6. What a history gives is defined in the room `ledger`: from the calls, what they returned and the bytes accepted. Nothing there names the session.
+-- numbers 1 to 7. What a history gives is defined in the room `ledger`: from the calls, what they returned and the bytes accepted. Nothing there names the session.
 -- Proved in proofs/Demand3.antt.
 use mathlib.Core.List.{List}
 use Rattle.ledger.specs.Calls.{run, Declines}
@@ -33,7 +33,7 @@ ToldByHistory = Told host plain-closing lent model2000T (discipline unit) freshS
 abbrev pub CarriedByBytes : Type 0
 CarriedByBytes = Carried host plain-closing model2000T (discipline unit) freshSession
 
--- "Requests can meet 1 to 5, received bytes 1, ticks 1 and 6": a call is declined exactly as the history says
+-- "Requests can meet 1 to 5, received bytes 1, ticks 1 and 6"; paying requests can meet 7, and clear 3 (02, Q-9): a call is declined exactly as the history says
 abbrev pub DeclinesByHistory : Type 0
 DeclinesByHistory = (cs : List Call) (c : Call)
     → Declines host (historyRefusals unit (history cs) (means c)) (run host freshSession cs) (lent c) (called (run host freshSession cs) c)

@@ -1,19 +1,19 @@
 -- The dispenser session, call by call (01, "The dispenser session" and "Numbers a call can answer").
 use Prim.Native.Nat.{ℕ, _+_}
-use mathlib.Core.Bool.{cond}
+use mathlib.Core.Bool.{Bool, cond, _||_}
 use mathlib.Core.List.{List, [], _∷_}
 use lib.Dec.{eqb}
 use lib.ListN.{length, take, set, replicate}
-use Rattle.refusals.specs.Rules.{Condition, Rule, says, under, atMost, within, isnt, judged, _gives_}
+use Rattle.refusals.specs.Rules.{Condition, Rule, says, under, atMost, within, both, isnt, judged, _gives_}
 use Rattle.refusals.specs.declared.Put.{Put}
 use Rattle.refusals.specs.declared.Put.the-variants.{Bytes, Refused as NotPut}
-use Rattle.dispenser_frame_rules.specs.Table.{answerLength}
+use Rattle.dispenser_frame_rules.specs.Table.{payUpperCode, payLowerCode, payBothCode, answerLength}
 use Rattle.dispenser_frame_rules.specs.Command.{sendable, writeCommand}
 use Rattle.dispenser_frame_rules.specs.Answer.{answerCode, readAnswer}
 use Rattle.dispenser_frame_rules.specs.declared.answer.AnswerRead.{AnswerRead}
 use Rattle.dispenser_frame_rules.specs.declared.answer.AnswerRead.the-variants.{Read, Refused as NotRead}
-use Rattle.exchange_rules.specs.Limits.{quiet, leastRoom, commandLimit, longestTick}
-use Rattle.exchange_rules.specs.Exchange.{freshLine, opened, closed, isOpen, heard, badFrame, passed}
+use Rattle.exchange_rules.specs.Limits.{quiet, doubtLimit, leastRoom, commandLimit, longestTick}
+use Rattle.exchange_rules.specs.Exchange.{freshLine, opened, closed, doubted, ends, isOpen, heard, badFrame, passed}
 use Rattle.dispenser_rules.specs.Account.{freshAccount, accountOpened, accountAnswered, accountRefused, accountUnknown}
 use Rattle.dispenser_rules.specs.declared.account.Account.{Account}
 use Rattle.exchange_rules.specs.declared.line.Phase.{Phase}
@@ -22,9 +22,10 @@ use Rattle.exchange_rules.specs.declared.line.Todo.{Todo}
 use Rattle.exchange_rules.specs.declared.line.Todo.the-variants.{Nothing as Rest, HandOver, Nak, LastNak, CloseRefused, CloseUnknown}
 use Rattle.exchange_rules.specs.declared.line.Heard.{Heard}
 use Rattle.exchange_rules.specs.declared.line.Heard.the-variants.{Keep, Judge, Do}
+use Rattle.ledger.specs.Account.{answered, refused, unknown}
 use Rattle.ledger.specs.Calls.{After as AfterCall}
 use Rattle.refusals.specs.declared.Declined.{Declined}
-use Rattle.refusals.specs.declared.Declined.the-variants.{Room, Range, Open, Unquiet, Spent, Tick}
+use Rattle.refusals.specs.declared.Declined.the-variants.{Room, Range, Open, Unquiet, Spent, Tick, Stopped}
 use Rattle.dispenser_rules.specs.declared.session.Asked.{Asked}
 use Rattle.dispenser_rules.specs.declared.session.Closing.{Closing}
 use Rattle.dispenser_rules.specs.declared.session.Closing.the-variants.{Nothing, Answered, Refused, Unknown}
@@ -102,14 +103,20 @@ handOver a r =
     let w = writeCommand (a .code) (a .upper) (a .lower) r in
     handed (bytesPut (w .answer)) (w .room)
 
+-- ---- what is closed
+
+-- "Paying requests": pay upper, pay lower and pay both
+unfoldable pub pays : ℕ → Bool
+pays code = eqb code payUpperCode || (eqb code payLowerCode || eqb code payBothCode)
+
 -- what the exchange says is to be done
 abbrev pub acted : Todo → Line → Asked → List ℕ → StepAfter
 acted Rest l a r = doneAfter l 0 Nothing r
 acted HandOver l a r = doneAfter l (handOver a r .put) Nothing (handOver a r .room)
 acted Nak l a r = doneAfter l 1 Nothing (set r 0 0x15)
-acted LastNak l a r = doneAfter l 1 Unknown (set r 0 0x15)
-acted CloseRefused l a r = doneAfter l 0 Refused r
-acted CloseUnknown l a r = doneAfter l 0 Unknown r
+acted LastNak l a r = doneAfter (ends l (pays (a .code)) unknown) 1 Unknown (set r 0 0x15)
+acted CloseRefused l a r = doneAfter (ends l (pays (a .code)) refused) 0 Refused r
+acted CloseUnknown l a r = doneAfter (ends l (pays (a .code)) unknown) 0 Unknown r
 
 -- ---- bytes
 
@@ -120,7 +127,7 @@ badStep l a r = acted (badFrame l .todo) (badFrame l .line) a r
 -- "Good answer with the code asked: send 06h and close as answered."
 abbrev pub judgedStep : AnswerRead → Line → Asked → List ℕ → StepAfter
 judgedStep (Read answer class) l a r =
-    cond (eqb (answerCode answer) (a .code)) (doneAfter (closed l quiet) 1 (Answered answer class) (set r 0 0x06)) (badStep l a r)
+    cond (eqb (answerCode answer) (a .code)) (doneAfter (ends (closed l quiet) (pays (a .code)) answered) 1 (Answered answer class) (set r 0 0x06)) (badStep l a r)
 judgedStep (NotRead fault) l a r = badStep l a r
 
 unfoldable pub judgeStep : Line → Asked → List ℕ → List ℕ → StepAfter
@@ -157,7 +164,11 @@ tickStep l a ms r =
 abbrev pub opens : Phase → Condition
 opens p = says (isOpen p)
 
--- "Requests can meet 1 to 5": "the lowest that applies is given"
+-- "two paying requests in succession which closed unknown .. From then on paying requests get the new number 7" (02, Q-9)
+abbrev pub stopped : Line → ℕ → Condition
+stopped l code = both (atMost doubtLimit (l .doubts)) (says (pays code))
+
+-- "Requests can meet 1 to 5", and paying ones 7, "after number 5 in order": "the lowest that applies is given"
 unfoldable pub requestRefusals : Line → ℕ → ℕ → ℕ → List ℕ → List (Rule Declined)
 requestRefusals l code upper lower r =
     under (length r) leastRoom gives Room
@@ -165,6 +176,7 @@ requestRefusals l code upper lower r =
     ∷ opens (l .phase) gives Open
     ∷ under 0 (l .left) gives Unquiet
     ∷ atMost commandLimit (l .accepted) gives Spent
+    ∷ stopped l code gives Stopped
     ∷ []
 
 abbrev pub command : ℕ → ℕ → ℕ → Asked
@@ -175,7 +187,17 @@ unfoldable pub requestStep : Line → Asked → ℕ → ℕ → ℕ → List ℕ
 requestStep l a code upper lower r =
     let w = handOver (command code upper lower) r in
     judged (requestRefusals l code upper lower r) (λ why. openingAfter (refusedOpening l a why) r)
-    (record { line = opened (l .accepted + 1); asked = command code upper lower; reply = Done (w .put) Nothing; room = w .room })
+    (record { line = opened l (l .accepted + 1); asked = command code upper lower; reply = Done (w .put) Nothing; room = w .room })
+
+-- ---- clear
+
+-- "Clear is refused with 3 while a command is open"
+unfoldable pub clearRefusals : Line → List (Rule Declined)
+clearRefusals l = opens (l .phase) gives Open ∷ []
+
+-- "else starts the succession afresh and changes no sum"
+unfoldable pub clearStep : Line → Step
+clearStep l = judged (clearRefusals l) (refusedStep l) (stepped (doubted l 0) 0 Nothing)
 
 -- ---- the account, booked from what a call answered
 
@@ -230,4 +252,14 @@ sessionTick s ms r =
       session = record { line = w .line; asked = s .asked; account = bookedBy (s .account) (s .asked) (w .reply); store = s .store };
       reply = w .reply;
       room = w .room;
+    }
+
+-- clear is lent no room
+unfoldable pub sessionClear : Session → After
+sessionClear s =
+    let w = clearStep (s .line) in
+    record {
+      session = record { line = w .line; asked = s .asked; account = s .account; store = s .store };
+      reply = w .reply;
+      room = [];
     }

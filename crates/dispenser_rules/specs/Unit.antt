@@ -1,14 +1,14 @@
 -- The Model 2000T, as a unit of the shared session (`exchange_rules`): what is asked of its two cassettes, in which bytes, and what an answer's bytes say of them.
 use Prim.Native.Nat.{ℕ}
 use mathlib.Core.Bool.{Bool, cond}
-use mathlib.Core.List.{List}
+use mathlib.Core.List.{List, []}
 use lib.Dec.{eqb}
 use lib.ListN.{take, drop}
 use Rattle.error_codes.specs.declared.ErrorClass.{ErrorClass}
 use Rattle.numbers.specs.Decimal.{number}
 use Rattle.ledger.specs.Account.{Dispenser}
 use Rattle.ledger.specs.Told.{Verdict, bad, good, Closing as PlainClosing, none, by-answer, by-refusal, by-doubt}
-use Rattle.exchange_rules.specs.Machine.{Model, Box, Call as PlainCall, request as asks, byte as hears, tick as waits}
+use Rattle.exchange_rules.specs.Machine.{Model, Box, Call as PlainCall, request as asks, byte as hears, tick as waits, clear as clears-line}
 use Rattle.exchange_rules.specs.declared.notes.Sums.{Sums}
 use Rattle.dispenser_frame_rules.specs.Table.{answerLength}
 use Rattle.dispenser_frame_rules.specs.Command.{sendable, commandFrame}
@@ -19,8 +19,8 @@ use Rattle.dispenser_frame_rules.specs.declared.answer.Answer.{Answer}
 use Rattle.dispenser_frame_rules.specs.declared.answer.AnswerRead.{AnswerRead}
 use Rattle.dispenser_frame_rules.specs.declared.answer.AnswerRead.the-variants.{Read, Refused as NotRead}
 use Rattle.dispenser_rules.specs.Account.{accountOpened, accountAnswered, accountRefused, accountUnknown}
-use Rattle.dispenser_rules.specs.Session.{handOver, command}
-use Rattle.dispenser_rules.specs.Calls.{Call, request, byte, tick, Request}
+use Rattle.dispenser_rules.specs.Session.{handOver, pays, command}
+use Rattle.dispenser_rules.specs.Calls.{Call, request, byte, tick, clear, Request, Own, clears}
 use Rattle.dispenser_rules.specs.declared.account.Account.{Account}
 use Rattle.dispenser_rules.specs.declared.session.Asked.{Asked}
 use Rattle.dispenser_rules.specs.declared.session.Closing.{Closing}
@@ -87,6 +87,7 @@ unit =
       hands = λ q r. record { put = handOver (asked-of q) r .put; room = handOver (asked-of q) r .room };
       judges = λ q f. verdict (q .code) (readAnswer f);
       more = λ q. 0;
+      pays = λ q. pays (q .code);
       cassette = cassette;
       opens = λ a q. accountOpened a (asked-of q);
       closes-refused = λ a q. accountRefused a (asked-of q);
@@ -107,15 +108,17 @@ abbrev pub box : Session → Box Request Account
 box s = record { line = s .line; asks = request-of (s .asked); account = s .account; store = s .store }
 
 -- which call each is, and the room that it is lent
-abbrev pub means : Call → PlainCall Request
+abbrev pub means : Call → PlainCall Request Own
 means (request code upper lower r) = asks (record { code = code; upper = upper; lower = lower }) r
 means (byte b r) = hears b r
 means (tick ms r) = waits ms r
+means clear = clears-line clears
 
 abbrev pub lent : Call → List ℕ
 lent (request code upper lower r) = r
 lent (byte b r) = r
 lent (tick ms r) = r
+lent clear = []
 
 -- which closing each is: one by an answer carries the answer, and the class of its error byte
 abbrev pub plain-closing : Closing → PlainClosing Good

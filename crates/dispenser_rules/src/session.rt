@@ -71,11 +71,13 @@ impl Session {
 
     pub const FRAME: u64 = Line::FRAME;
 
-    pub const HAND_OVERS: u64 = Line::HAND_OVERS;
+    pub const HAND_OVERS: u32 = Line::HAND_OVERS;
 
-    pub const NAKS: u64 = Line::NAKS;
+    pub const NAKS: u32 = Line::NAKS;
 
     pub const COMMANDS: u64 = Line::COMMANDS;
+
+    pub const DOUBTS: u32 = Line::DOUBTS;
 
     pub const ROOM: usize = Line::ROOM;
 

@@ -6,6 +6,12 @@ use Rattle.exchange.proofs.line.opened.Kinds as opened
 use Rattle.exchange.proofs.line.opened.Reads as opened-reads
 use Rattle.exchange.proofs.line.closed.Kinds as closed
 use Rattle.exchange.proofs.line.closed.Reads as closed-reads
+use Rattle.exchange.proofs.line.doubted.Kinds as doubted
+use Rattle.exchange.proofs.line.doubted.Reads as doubted-reads
+use Rattle.exchange.proofs.line.in_doubt.Kinds as in-doubt
+use Rattle.exchange.proofs.line.in_doubt.Reads as in-doubt-reads
+use Rattle.exchange.proofs.line.settled.Kinds as settled
+use Rattle.exchange.proofs.line.settled.Reads as settled-reads
 use Rattle.exchange.proofs.line.bad.Kinds as bad
 use Rattle.exchange.proofs.line.bad.Reads as bad-reads
 use Rattle.exchange.proofs.line.heard.Kinds as heard
@@ -37,6 +43,21 @@ pub closed-tied : Tied closed.ps closed.r closed-reads.Post (λ κs x e. x)
 closed-tied =
     tied closed.ps closed.r closed-reads.Post (λ κs x e. x) _
     (λ κs a x e p. p)
+
+pub doubted-tied : Tied doubted.ps doubted.r doubted-reads.Post (λ κs x e. x)
+doubted-tied =
+    tied doubted.ps doubted.r doubted-reads.Post (λ κs x e. x) _
+    (λ κs a x e p. p)
+
+pub in-doubt-tied : Tied in-doubt.ps in-doubt.r in-doubt-reads.Post (λ κs x e. x)
+in-doubt-tied =
+    tied in-doubt.ps in-doubt.r in-doubt-reads.Post (λ κs x e. x) _
+    (λ κs a x e p. p)
+
+pub settled-tied : Tied settled.ps settled.r settled-reads.Post (λ κs x e. x)
+settled-tied =
+    tied settled.ps settled.r settled-reads.Post (λ κs x e. x) _
+    (λ κs a x e p. p .0)
 
 pub bad-tied : Tied bad.ps bad.r bad-reads.Post (λ κs x e. x)
 bad-tied =

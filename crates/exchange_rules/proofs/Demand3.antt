@@ -7,30 +7,34 @@ use mathlib.Core.List.{List, [], _∷_}
 use native.Mathlib.Omega.{arith}
 use lib.Dec.{lit≤}
 use lib.ListN.{length, take}
-use Rattle.refusals.specs.Rules.{says, under, atMost, _gives_}
+use Rattle.refusals.specs.Rules.{Rule, says, under, atMost, both, _gives_}
 use Rattle.refusals.proofs.Rules.{Alike}
 use Rattle.ledger.specs.Events.{Deed, Left, Event, done, History}
 use Rattle.ledger.specs.Calls.{Returned, gave, did, told, Host, seen, run, historyFrom}
 use Rattle.ledger.specs.Line.{isOpen as isOpenIn, quietTime, quietNeeded, accepted}
 use Rattle.ledger.specs.Account.{Ending, commands, totals}
+use Rattle.ledger.specs.Stopped.{sinceClear, unknowns, succession}
 use Rattle.ledger.specs.Sent.{Demand3}
 use Rattle.ledger.specs.Told.{by-answer, ending, Due, dueBy, Answers, Told, AnsweredBy, Carried}
-use Rattle.refusals.specs.declared.Declined.the-variants.{Open, Unquiet, Spent}
+use Rattle.refusals.specs.declared.Declined.{Declined}
+use Rattle.refusals.specs.declared.Declined.the-variants.{Open, Unquiet, Spent, Stopped}
 use Rattle.ledger.proofs.Laws.{balanced}
-use Rattle.ledger.proofs.Follows.{OpenIn, At, follows-few}
-use Rattle.exchange_rules.specs.Limits.{quiet, handOvers, commandLimit}
+use Rattle.ledger.proofs.Follows.{OpenIn, At, least, follows-few}
+use Rattle.exchange_rules.specs.Limits.{quiet, handOvers, commandLimit, doubtLimit}
 use Rattle.exchange_rules.specs.Exchange.{isOpen, freshLine}
 use Rattle.exchange_rules.specs.Sums.{freshSums}
-use Rattle.exchange_rules.specs.Machine.{Model, Box, discipline, plain, quietAfter, requestRefusals, historyRefusals, Call, request, byte, tick, deed, called, host}
+use Rattle.exchange_rules.specs.Machine.{Model, Box, discipline, plain, quietAfter, requestRefusals, historyRefusals, Call, request, byte, tick, clear, clearRefusals, deed, called, host}
 use Rattle.exchange_rules.specs.Kept.{Bounded, Within, Sound}
 use Rattle.exchange_rules.specs.Owed.{Lawful, saying, Session}
+use Rattle.exchange_rules.specs.declared.line.Line.{Line}
 use Rattle.exchange_rules.specs.declared.line.Phase.{Phase}
 use Rattle.exchange_rules.specs.declared.line.Phase.the-variants.{Idle, First, Start, Inside}
 use Rattle.exchange_rules.proofs.Views.{stage, view, rules, Tracks}
+use Rattle.exchange_rules.proofs.Stopped.{stopped-same}
 use Rattle.exchange_rules.proofs.Told.{called-told}
-use Rattle.exchange_rules.proofs.Keeping.{request-sound, heard-sound, passed-sound}
+use Rattle.exchange_rules.proofs.Keeping.{request-sound, heard-sound, passed-sound, clear-sound}
 use Rattle.exchange_rules.proofs.Fields.{called-carries}
-use Rattle.exchange_rules.proofs.Tracks.{request-tracks, byte-tracks, tick-tracks, open-pending}
+use Rattle.exchange_rules.proofs.Tracks.{request-tracks, byte-tracks, tick-tracks, clear-tracks, open-pending}
 
 -- ---- a fresh session
 
@@ -57,27 +61,37 @@ module _ {R X A C : Type 0} (U : Model R X A C) where
     new-sound = record { stands = tt; commands = lit≤ tt; books = λ c. subst (Within (U .greatest) 0 0) (sym (zero c)) (fresh-sums (U .greatest) _ _); store = full }
 
     pub new-tracks : {O : Type 0} → Tracks U {O = O} new []
-    unfolding commands totals isOpenIn quietTime quietNeeded accepted
+    unfolding commands totals isOpenIn quietTime quietNeeded accepted sinceClear unknowns least
     new-tracks =
         record {
           books = λ c. ap plain (zero c);
           place = record { over = λ c. refl; few = tt; shut = refl; needed = refl; wait = refl };
           many = refl;
           rightly = tt;
+          stopped = refl;
         }
 
   -- ---- a call
 
   module _ {O : Type 0} (K : Lawful U) (s : Box R A) (h : History R O Ending) (k : Sound U s) (t : Tracks U s h) where
-    called-sound : (c : Call R) → Sound U (called U s c .session)
+    called-sound : (c : Call R O) → Sound U (called U s c .session)
     called-sound (request q r) = request-sound U K s k q r
     called-sound (byte b r) = heard-sound U K s k b r (λ c o. open-pending U K s h k t c o)
     called-sound (tick ms r) = passed-sound U K s k ms r
+    called-sound (clear o) = clear-sound U K s k
 
-    called-tracks : (c : Call R) → Tracks U (called U s c .session) (seen (host U) s c ∷ h)
+    called-tracks : (c : Call R O) → Tracks U (called U s c .session) (seen (host U) s c ∷ h)
     called-tracks (request q r) = request-tracks U K s h k t q r
     called-tracks (byte b r) = byte-tracks U K s h k t b r
     called-tracks (tick ms r) = tick-tracks U K s h k t ms r
+    called-tracks (clear o) = clear-tracks U K s h k t o
+
+  -- the numbers 5 and 7, by the line and by the history
+  abbrev by-line : Line → R → List (Rule Declined)
+  by-line l q = atMost commandLimit (l .accepted) gives Spent ∷ both (atMost doubtLimit (l .doubts)) (says (U .pays q)) gives Stopped ∷ []
+
+  abbrev by-history : {O : Type 0} → History R O Ending → R → List (Rule Declined)
+  by-history h q = atMost commandLimit (accepted h) gives Spent ∷ both (atMost doubtLimit (succession (U .bytes) (U .pays) h)) (says (U .pays q)) gives Stopped ∷ []
 
   -- on a line that follows its history, both say the same of a request
   pub alike-at : {O : Type 0} (s : Box R A) (h : History R O Ending) (q : R) (r : List ℕ) → Tracks U s h
@@ -86,24 +100,40 @@ module _ {R X A C : Type 0} (U : Model R X A C) where
   alike-at s h q r t =
       (refl, (((λ w. w), λ w. w), λ n. (refl, (((λ w. w), λ w. w), λ m. by (s .line .phase) (t .place)))))
     where
-      spent : Alike (atMost commandLimit (s .line .accepted) gives Spent ∷ []) (atMost commandLimit (accepted h) gives Spent ∷ [])
-      spent = (refl, (((λ w. omega (arith, t .many)), λ w. omega (arith, t .many)), λ n. tt))
+      rest : Alike (by-line (s .line) q) (by-history h q)
+      rest =
+          let z = stopped-same (s .line .doubts) (succession (U .bytes) (U .pays) h) (t .stopped) in
+          (refl, (((λ w. omega (arith, t .many)), λ w. omega (arith, t .many)), λ n. (refl, (((λ w. (z .0 (w .0), w .1)), λ w. (z .1 (w .0), w .1)), λ m. tt))))
 
       busy : OpenIn (rules U) (view U s) h
-          → Alike (says true gives Open ∷ under 0 (s .line .left) gives Unquiet ∷ atMost commandLimit (s .line .accepted) gives Spent ∷ [])
-          (says (isOpenIn h) gives Open ∷ under (quietTime h) (quietNeeded (quietAfter U) quiet h) gives Unquiet ∷ atMost commandLimit (accepted h) gives Spent ∷ [])
+          → Alike (says true gives Open ∷ under 0 (s .line .left) gives Unquiet ∷ by-line (s .line) q)
+          (says (isOpenIn h) gives Open ∷ under (quietTime h) (quietNeeded (quietAfter U) quiet h) gives Unquiet ∷ by-history h q)
       busy x = (refl, (((λ w. x .still), λ w. refl), λ n. absurd (n refl)))
 
       by : (p : Phase) → At (rules U) (stage p) (view U s) h
-          → Alike (says (isOpen p) gives Open ∷ under 0 (s .line .left) gives Unquiet ∷ atMost commandLimit (s .line .accepted) gives Spent ∷ [])
-          (says (isOpenIn h) gives Open ∷ under (quietTime h) (quietNeeded (quietAfter U) quiet h) gives Unquiet ∷ atMost commandLimit (accepted h) gives Spent ∷ [])
+          → Alike (says (isOpen p) gives Open ∷ under 0 (s .line .left) gives Unquiet ∷ by-line (s .line) q)
+          (says (isOpenIn h) gives Open ∷ under (quietTime h) (quietNeeded (quietAfter U) quiet h) gives Unquiet ∷ by-history h q)
       by Idle x = (
         refl,
         (
           ((λ w. x .shut ∙ w), λ w. sym (x .shut) ∙ w),
-          λ n. (refl, (((λ w. omega (arith, x .wait, x .needed)), λ w. omega (arith, x .wait, x .needed)), λ m. spent)),
+          λ n. (refl, (((λ w. omega (arith, x .wait, x .needed)), λ w. omega (arith, x .wait, x .needed)), λ m. rest)),
         ),
       )
+      by First x = busy (x .is)
+      by Start x = busy (x .is)
+      by Inside x = busy (x .is)
+
+  -- and of a clear
+  pub clear-alike : {O : Type 0} (s : Box R A) (h : History R O Ending) (o : O) → Tracks U s h → Alike (clearRefusals U (s .line)) (historyRefusals U h (clear o))
+  unfolding clearRefusals historyRefusals
+  clear-alike s h o t = by (s .line .phase) (t .place)
+    where
+      busy : OpenIn (rules U) (view U s) h → Alike (says true gives Open ∷ []) (says (isOpenIn h) gives Open ∷ [])
+      busy x = (refl, (((λ w. x .still), λ w. refl), λ n. absurd (n refl)))
+
+      by : (p : Phase) → At (rules U) (stage p) (view U s) h → Alike (says (isOpen p) gives Open ∷ []) (says (isOpenIn h) gives Open ∷ [])
+      by Idle x = (refl, (((λ w. x .shut ∙ w), λ w. sym (x .shut) ∙ w), λ n. tt))
       by First x = busy (x .is)
       by Start x = busy (x .is)
       by Inside x = busy (x .is)

@@ -14,7 +14,7 @@ use Rattle.ledger.specs.Told.{Verdict, bad, good, void, none, by-answer, by-ref
 use Rattle.ledger.proofs.Laws.{commands-closed}
 use Rattle.ledger.proofs.Follows.{as-open}
 use Rattle.exchange_rules.specs.Exchange.{firstByte, badFrame, startByte, insideByte, heardIn, heard, passed}
-use Rattle.exchange_rules.specs.Machine.{Model, Box, Reply, discipline, acted, badStep, judgedStep, judgeStep, byteActed, byteRefusals, tickRefusals, requestRefusals, left, called-request, heardStep, called-byte, called-tick, Call, request, byte, tick, deed, called}
+use Rattle.exchange_rules.specs.Machine.{Model, Box, Reply, discipline, acted, badStep, judgedStep, judgeStep, byteActed, byteRefusals, tickRefusals, requestRefusals, left, called-request, heardStep, called-byte, called-tick, Call, request, byte, tick, clear, clearRefusals, called-clear, deed, called}
 use Rattle.exchange_rules.specs.Kept.{Sound}
 use Rattle.exchange_rules.specs.Owed.{Lawful}
 use Rattle.exchange_rules.specs.declared.line.Phase.{Phase}
@@ -76,10 +76,10 @@ module _ {R X A C : Type 0} (U : Model R X A C) where
 
   module _ {O : Type 0} (K : Lawful U) (s : Box R A) (h : History R O Ending) (k : Sound U s) (t : Tracks U s h) where
     -- after a call the history has the command answered by what it carries
-    abbrev Carries : Call R → Reply X → List ℕ → Type 0
+    abbrev Carries : Call R O → Reply X → List ℕ → Type 0
     Carries c p room = (n : ℕ) (x : X) → p ≡ did n (by-answer x) → AnsweredBy (U .bytes) (discipline U) (told ending (deed c) p room ∷ h) x
 
-    none-carried : (c : Call R) (p : Reply X) (room : List ℕ) → carries p ≡ false → Carries c p room
+    none-carried : (c : Call R O) (p : Reply X) (room : List ℕ) → carries p ≡ false → Carries c p room
     none-carried c p room f n x e = absurd (true≢false (sym (ap carries e) ∙ f))
 
     module _ (b : ℕ) (r : List ℕ) (long : 16 ≤ length r) where
@@ -126,8 +126,8 @@ module _ {R X A C : Type 0} (U : Model R X A C) where
               go Judge full = judge-carries (full refl) (u .line)
               go (Do d) full = none-carried (byte b r) (acted U d (u .line) (s .asks) r .reply) (acted U d (u .line) (s .asks) r .room) (acted-none d (u .line) (s .asks) r)
 
-    pub called-carries : (c : Call R) → Carries c (called U s c .reply) (called U s c .room)
-    unfolding called-request requestRefusals called-byte byteRefusals heardStep called-tick tickRefusals
+    pub called-carries : (c : Call R O) → Carries c (called U s c .reply) (called U s c .room)
+    unfolding called-request requestRefusals called-byte byteRefusals heardStep called-tick tickRefusals called-clear
     called-carries (request q r) =
         either-way (λ (w : After (Box R A) (Reply X)). Carries (request q r) (w .reply) (w .room)) (requestRefusals U (s .line) q r) (left U s r) _
         (λ why. none-carried (request q r) (gave why) r refl) (λ n. none-carried (request q r) (did (U .hands q r .put) none) (U .hands q r .room) refl)
@@ -139,3 +139,6 @@ module _ {R X A C : Type 0} (U : Model R X A C) where
         either-way (λ (w : After (Box R A) (Reply X)). Carries (tick ms r) (w .reply) (w .room)) (tickRefusals U ms r) (left U s r) _
         (λ why. none-carried (tick ms r) (gave why) r refl)
         (λ n. none-carried (tick ms r) (acted U (u .todo) (u .line) (s .asks) r .reply) (acted U (u .todo) (u .line) (s .asks) r .room) (acted-none (u .todo) (u .line) (s .asks) r))
+    called-carries (clear o) =
+        either-way (λ (w : After (Box R A) (Reply X)). Carries (clear o) (w .reply) (w .room)) (clearRefusals U (s .line)) (left U s []) _
+        (λ why. none-carried (clear o) (gave why) [] refl) (λ n. none-carried (clear o) (did 0 none) [] refl)

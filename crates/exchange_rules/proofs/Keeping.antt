@@ -2,7 +2,7 @@
 use Prim.Native.Nat.{ℕ, _+_, _-_, _*_, _≤_, _<_}
 use mathlib.Core.Path.{_≡_, refl, sym, ap, _∙_, subst}
 use mathlib.Core.Bool.{true}
-use mathlib.Core.List.{List}
+use mathlib.Core.List.{List, []}
 use native.Mathlib.Nat.{le-refl, le-of-eq}
 use native.Mathlib.Omega.{arith}
 use lib.Dec.{lit≤, lit<}
@@ -12,8 +12,8 @@ use Rattle.ledger.specs.Told.{Verdict, bad, good, void}
 use Rattle.ledger.specs.Calls.{After}
 use Rattle.refusals.proofs.Rules.{pick, either-way, certain}
 use Rattle.exchange_rules.specs.Limits.{quiet, answerWait, nakWait, frameWait, handOvers, nakLimit, commandLimit}
-use Rattle.exchange_rules.specs.Exchange.{isOpen, handedAgain, closed, starting, inside, waits, firstByte, badFrame, startByte, insideByte, heardIn, heard, expiredIn, expired, passed}
-use Rattle.exchange_rules.specs.Machine.{Model, Reply, Box, acted, badStep, judgedStep, judgeStep, byteActed, byteRefusals, tickRefusals, requestRefusals, next, opening, left, called-request, heardStep, called-byte, called-tick}
+use Rattle.exchange_rules.specs.Exchange.{isOpen, handedAgain, closed, starting, inside, waits, doubted, firstByte, badFrame, startByte, insideByte, heardIn, heard, expiredIn, expired, passed}
+use Rattle.exchange_rules.specs.Machine.{Model, Reply, Box, acted, badStep, judgedStep, judgeStep, byteActed, byteRefusals, tickRefusals, requestRefusals, next, opening, left, called-request, heardStep, called-byte, called-tick, clearRefusals, called-clear}
 use Rattle.exchange_rules.specs.Kept.{Live, Stands, settled, Within, Sound}
 use Rattle.exchange_rules.specs.Owed.{Lawful}
 use Rattle.exchange_rules.specs.declared.line.Phase.{Phase}
@@ -95,15 +95,18 @@ module _ {R X A C : Type 0} (U : Model R X A C) where
     open-on : (m : Line) → Live U l q → 1 ≤ m .handed → m .handed ≤ handOvers → m .naks < nakLimit → m .accepted ≡ l .accepted → Live U m q
     open-on m o least most naks e = record { sent = o .sent; least = least; most = most; naks = naks; one = omega (arith, o .one) }
 
-    -- a wait that goes on
-    waits-stands : (left : ℕ) (p : Phase) → Stands U p l q → Stands U p (waits l left) q
-    waits-stands left Idle st = tt
-    waits-stands left First st = open-on (waits l left) st (st .least) (st .most) (st .naks) refl
-    waits-stands left Start st = (open-on (waits l left) (st .0) (st .0 .least) (st .0 .most) (st .0 .naks) refl, st .1)
-    waits-stands left Inside st = (open-on (waits l left) (st .0) (st .0 .least) (st .0 .most) (st .0 .naks) refl, st .1, st .2)
+    -- a line that differs in a wait or in its count of doubts alone
+    same-stands : (left doubts : ℕ) (p : Phase) → Stands U p l q → Stands U p (doubted (waits l left) doubts) q
+    same-stands left doubts Idle st = tt
+    same-stands left doubts First st = open-on (doubted (waits l left) doubts) st (st .least) (st .most) (st .naks) refl
+    same-stands left doubts Start st = (open-on (doubted (waits l left) doubts) (st .0) (st .0 .least) (st .0 .most) (st .0 .naks) refl, st .1)
+    same-stands left doubts Inside st = (open-on (doubted (waits l left) doubts) (st .0) (st .0 .least) (st .0 .most) (st .0 .naks) refl, st .1, st .2)
+
+    same-still : (left doubts : ℕ) → Stands U (l .phase) l q → Still l (doubted (waits l left) doubts) q
+    same-still left doubts st = record { accepted = refl; count = refl; stands = same-stands left doubts (l .phase) st }
 
     goes-on : (left : ℕ) → Stands U (l .phase) l q → Still l (waits l left) q
-    goes-on left st = record { accepted = refl; count = refl; stands = waits-stands left (l .phase) st }
+    goes-on left st = same-still left (l .doubts) st
 
   module _ (K : Lawful U) (l : Line) (q : R) (w : Busy l q) where
     -- the command closes
@@ -208,9 +211,9 @@ module _ {R X A C : Type 0} (U : Model R X A C) where
         }
 
     -- a command closed, its notes booked
-    closes-sound : (need : ℕ) (x : A) → Closes (s .line) m (s .asks)
-        → ((c : C) → Within (U .greatest) (s .line .accepted) (m .accepted) (U .cassette x c)) → Sound U (with (closed m need) x)
-    closes-sound need x t b =
+    closes-sound : (need doubts : ℕ) (x : A) → Closes (s .line) m (s .asks)
+        → ((c : C) → Within (U .greatest) (s .line .accepted) (m .accepted) (U .cassette x c)) → Sound U (with (doubted (closed m need) doubts) x)
+    closes-sound need doubts x t b =
         record {
           stands = tt;
           commands = omega (arith, k .commands, t .accepted);
@@ -219,15 +222,15 @@ module _ {R X A C : Type 0} (U : Model R X A C) where
         }
 
     -- by what is to be done
-    refused-sound : (need : ℕ) (t : Closes (s .line) m (s .asks)) → Sound U (with (closed m need) (U .closes-refused (s .account) (s .asks)))
-    refused-sound need t =
-        closes-sound need _ t (λ c.
+    refused-sound : (need doubts : ℕ) → Closes (s .line) m (s .asks) → Sound U (with (doubted (closed m need) doubts) (U .closes-refused (s .account) (s .asks)))
+    refused-sound need doubts t =
+        closes-sound need doubts _ t (λ c.
         subst (Within (U .greatest) (s .line .accepted) (m .accepted)) (sym (K .closes-refused (s .account) (s .asks) c))
         (sums-refused (k .books c) (U .bytes .wants (s .asks) c) (K .modest (s .asks) c (t .sent)) (one-more (U .greatest) _ _ (t .count))))
 
-    unknown-sound : (need : ℕ) (t : Closes (s .line) m (s .asks)) → Sound U (with (closed m need) (U .closes-unknown (s .account) (s .asks)))
-    unknown-sound need t =
-        closes-sound need _ t (λ c.
+    unknown-sound : (need doubts : ℕ) → Closes (s .line) m (s .asks) → Sound U (with (doubted (closed m need) doubts) (U .closes-unknown (s .account) (s .asks)))
+    unknown-sound need doubts t =
+        closes-sound need doubts _ t (λ c.
         subst (Within (U .greatest) (s .line .accepted) (m .accepted)) (sym (K .closes-unknown (s .account) (s .asks) c))
         (sums-unknown (k .books c) (U .bytes .wants (s .asks) c) (K .modest (s .asks) c (t .sent)) (one-more (U .greatest) _ _ (t .count))))
 
@@ -235,9 +238,9 @@ module _ {R X A C : Type 0} (U : Model R X A C) where
     acted-sound Nothing r d = still-sound d
     acted-sound HandOver r d = still-sound d
     acted-sound Nak r d = still-sound d
-    acted-sound LastNak r d = unknown-sound _ d
-    acted-sound CloseRefused r d = refused-sound _ d
-    acted-sound CloseUnknown r d = unknown-sound _ d
+    acted-sound LastNak r d = unknown-sound _ _ d
+    acted-sound CloseRefused r d = refused-sound _ _ d
+    acted-sound CloseUnknown r d = unknown-sound _ _ d
 
   -- ---- a frame that is judged
 
@@ -255,10 +258,10 @@ module _ {R X A C : Type 0} (U : Model R X A C) where
     judged-sound p frame bad e = bad-sound
     judged-sound p frame (good x) e =
         let c = closes K (s .line) (s .asks) w quiet in
-        closes-sound K s k (closed (s .line) quiet) (s .store) (k .store) _ _ c (λ i.
+        closes-sound K s k (closed (s .line) quiet) (s .store) (k .store) _ _ _ c (λ i.
         subst (Within (U .greatest) (s .line .accepted) (s .line .accepted)) (sym (K .answers (s .account) (s .asks) frame x i (c .sent) e (p i)))
         (sums-answered (k .books i) _ _ _ (K .modest (s .asks) i (c .sent)) (K .paid (s .asks) frame x i (c .sent) e) (K .spoilt (s .asks) frame x i (c .sent) e) (one-more (U .greatest) _ _ (c .count))))
-    judged-sound p frame void e = refused-sound K s k (closed (s .line) quiet) (s .store) (k .store) _ (closes K (s .line) (s .asks) w quiet)
+    judged-sound p frame void e = refused-sound K s k (closed (s .line) quiet) (s .store) (k .store) _ _ (closes K (s .line) (s .asks) w quiet)
 
   -- ---- a byte
 
@@ -288,7 +291,7 @@ module _ {R X A C : Type 0} (U : Model R X A C) where
   idle-count Inside n h = absurd (h refl)
 
   module _ (K : Lawful U) (s : Box R A) (k : Sound U s) where
-    -- the three calls, each refused or done
+    -- the calls, each refused or done
     request-done : (q : R) (r : List ℕ) → NoneOf (requestRefusals U (s .line) q r) → Sound U (opening U s q)
     unfolding requestRefusals
     request-done q r n =
@@ -326,3 +329,11 @@ module _ {R X A C : Type 0} (U : Model R X A C) where
         either-way (λ (w : After (Box R A) (Reply X)). Sound U (w .session)) (tickRefusals U ms r) (left U s r) _
         (λ why. k)
         (λ n. acted-sound K s k (t .line) (s .store) (k .store) (t .todo) r (passed-turns K (s .line) (s .asks) (k .stands) ms))
+
+    -- the operator's clear leaves the phase, the commands, the books and the store
+    pub clear-sound : Sound U (called-clear U s .session)
+    unfolding called-clear
+    clear-sound =
+        either-way (λ (w : After (Box R A) (Reply X)). Sound U (w .session)) (clearRefusals U (s .line)) (left U s []) _
+        (λ why. k)
+        (λ n. still-sound K s k _ (s .store) (k .store) (same-still (s .line) (s .asks) _ _ (k .stands)))

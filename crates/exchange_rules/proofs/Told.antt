@@ -19,7 +19,7 @@ use Rattle.ledger.proofs.Waiting.{begun-with, begun-next, unbegun-first, begun-
 use Rattle.ledger.proofs.Follows.{as-open, OpenIn, while-open, while-shut}
 use Rattle.exchange_rules.specs.Limits.{firstWait, frameWait}
 use Rattle.exchange_rules.specs.Exchange.{heardIn, heard, expiredIn, expired, passed}
-use Rattle.exchange_rules.specs.Machine.{Model, Box, Reply, discipline, acted, byteActed, byteRefusals, tickRefusals, left, heardStep, called-byte, called-tick, Call, request, byte, tick, lent, deed, called}
+use Rattle.exchange_rules.specs.Machine.{Model, Box, Reply, discipline, acted, byteActed, byteRefusals, tickRefusals, left, heardStep, called-byte, called-tick, Call, request, byte, tick, clear, clearRefusals, called-clear, lent, deed, called}
 use Rattle.exchange_rules.specs.Kept.{Sound}
 use Rattle.exchange_rules.specs.Owed.{Lawful}
 use Rattle.exchange_rules.specs.declared.line.Phase.{Phase}
@@ -155,13 +155,13 @@ module _ {R X A C O : Type 0} (U : Model R X A C) (K : Lawful U) (s : Box R A) (
               tick-fits (stood U s k e .0 .sent) (x .is)
               (open-due frameWait (rw z) (x .wait) (rw (z, x .is .naks) (sym (inside-expires U (s .asks) (s .line)) ∙ expires e)))
 
-  -- ---- the three calls
+  -- ---- the calls
 
-  abbrev Due-of : Call R → After (Box R A) (Reply X) → Type 0
+  abbrev Due-of : Call R O → After (Box R A) (Reply X) → Type 0
   Due-of c w = Answers (λ (c : Closing X). c) (dueBy (U .bytes) (discipline U) h (deed c)) (lent c) (w .reply) (w .room)
 
-  pub called-told : (c : Call R) → Due-of c (called U s c)
-  unfolding called-byte byteRefusals heardStep called-tick tickRefusals
+  pub called-told : (c : Call R O) → Due-of c (called U s c)
+  unfolding called-byte byteRefusals heardStep called-tick tickRefusals called-clear over
   called-told (request q r) = request-fits U K s q r
   called-told (byte b r) =
       either-way (Due-of (byte b r)) (byteRefusals U r) (left U s r) _ (λ why. refl)
@@ -169,3 +169,4 @@ module _ {R X A C O : Type 0} (U : Model R X A C) (K : Lawful U) (s : Box R A) (
   called-told (tick ms r) =
       either-way (Due-of (tick ms r)) (tickRefusals U ms r) (left U s r) _ (λ why. refl)
       (λ n. passed-fits ms r (certain (atMost 16 (length r)) (λ w. n .0 (omega arith))))
+  called-told (clear o) = either-way (Due-of (clear o)) (clearRefusals U (s .line)) (left U s []) _ (λ why. refl) (λ n. (refl, (refl, refl)))

@@ -24,10 +24,10 @@ use Rattle.ledger.specs.Sent.{Sends}
 use Rattle.ledger.specs.Waiting.{some, waited}
 use Rattle.ledger.proofs.Laws.{OnLine, since-more}
 use Rattle.ledger.proofs.Waiting.{some-more, some-added, some-long, begun-sent, waited-sent, begun-tick, waited-tick, begun-next, begun-came, unbegun-first, waited-first, waited-start, waited-skip, waited-inside}
-use Rattle.ledger.proofs.Follows.{OpenIn, IdleIn, FirstIn, StartIn, At, Follows, View, declined-follows, open-still, idle-still, still-follows, open-kept, fate-by, again-follows, closes-follows, opened-follows}
-use Rattle.exchange_rules.specs.Limits.{quiet, longQuiet, answerWait, nakWait, frameWait, handOvers, nakLimit}
+use Rattle.ledger.proofs.Follows.{OpenIn, IdleIn, FirstIn, StartIn, At, Follows, View, declined-follows, open-still, idle-still, still-follows, open-kept, fate-by, again-follows, closes-follows, opened-follows, least, cleared-follows, idle}
+use Rattle.exchange_rules.specs.Limits.{answerWait, nakWait, frameWait, handOvers, nakLimit}
 use Rattle.exchange_rules.specs.Exchange.{isOpen, turn, hearing, closed, handedAgain, starting, inside as within, waits, firstByte, badFrame, startByte, insideByte, heardIn, heard, expiredIn, expired, passed}
-use Rattle.exchange_rules.specs.Machine.{Model, Reply, Box, StepAfter, doneAfter, quietAfter, shut, acted, badStep, judgedStep, judgeStep, byteActed, byteRefusals, tickRefusals, requestRefusals, next, opening, left, called-request, heardStep, called-byte, called-tick, plain}
+use Rattle.exchange_rules.specs.Machine.{Model, Reply, Box, StepAfter, doneAfter, shut, acted, badStep, judgedStep, judgeStep, byteActed, byteRefusals, tickRefusals, requestRefusals, next, opening, left, called-request, heardStep, called-byte, called-tick, clearRefusals, cleared, called-clear, plain}
 use Rattle.exchange_rules.specs.Kept.{Live, settled, Sound}
 use Rattle.exchange_rules.specs.Owed.{Lawful}
 use Rattle.exchange_rules.specs.declared.line.Phase.{Phase}
@@ -40,6 +40,7 @@ use Rattle.exchange_rules.specs.declared.line.Turn.{Turn}
 use Rattle.exchange_rules.proofs.Shown.{Roomy, together, apart, shows-opened, shows-refused, shows-unknown, shows-answered}
 use Rattle.exchange_rules.proofs.Bounds.{bounded-longer, bounded-wider}
 use Rattle.exchange_rules.proofs.Keeping.{settled-most}
+use Rattle.exchange_rules.proofs.Stopped.{counted-same}
 use Rattle.exchange_rules.proofs.Views.{one-put, none-frame, one-frame, stage, view, rules, Tracks, at, stood, yet, grown, full-last}
 
 module _ {R X A C : Type 0} (U : Model R X A C) where
@@ -73,7 +74,7 @@ module _ {R X A C O : Type 0} (U : Model R X A C) where
   nothing-sent h (asks q) o = absurd o
   nothing-sent h (hears b) o = inl refl
   nothing-sent h (passes ms) o = inl refl
-  nothing-sent h (own w) o = refl
+  nothing-sent h (own w) o = absurd o
 
   module _ (K : Lawful U) where
     -- ---- the moves of a session, each with what its caller was told
@@ -81,10 +82,10 @@ module _ {R X A C O : Type 0} (U : Model R X A C) where
     module _ (s : Box R A) (h : History R O Ending) (k : Sound U s) (t : Tracks U s h) where
       module _ (d : Deed R O) (o : OnLine d) where
         -- nothing is put, and nothing closes
-        quiet-good : (m : Line) (store : List ℕ) → m .accepted ≡ s .line .accepted
+        quiet-good : (m : Line) (store : List ℕ) → m .accepted ≡ s .line .accepted → m .doubts ≡ s .line .doubts
             → At (rules U) (stage (m .phase)) (view U (moved U s m store)) (done d [] goes-on ∷ h)
             → Tracks U (moved U s m store) (done d [] goes-on ∷ h)
-        quiet-good m store g p = still-follows (rules U) o none-frame (view U (moved U s m store)) t (λ c. refl) g (nothing-sent h d o) p
+        quiet-good m store g f p = still-follows (rules U) o none-frame (view U (moved U s m store)) t (λ c. refl) g f (nothing-sent h d o) p
 
         module _ (x : OpenIn (rules U) (view U s) h) (op : Live U (s .line) (s .asks)) where
           -- the sums of a cassette while the command is open
@@ -122,27 +123,28 @@ module _ {R X A C O : Type 0} (U : Model R X A C) where
           -- the command closes, and the account with it
           closes-good : (put : List ℕ) → isFrame put ≡ false → Sends (U .bytes) (U .layout) h d put → (end : Ending) (account : A) (store : List ℕ)
               → ((c : C) → plain (U .cassette account c) ≡ with-share (U .bytes) (older c) (fate-by (rules U) (view U s) h d put end) (s .asks) c)
-              → Tracks U (record { line = closed (s .line) (quietAfter U (s .asks) end); asks = s .asks; account = account; store = store }) (done d put (closes end) ∷ h)
+              → Tracks U (record { line = shut U (s .asks) end (s .line); asks = s .asks; account = account; store = store }) (done d put (closes end) ∷ h)
           closes-good put e w end account store kept =
               closes-follows (rules U) (view U s) h t x d o put e w end
-              (view U (record { line = closed (s .line) (quietAfter U (s .asks) end); asks = s .asks; account = account; store = store })) refl refl refl refl kept
+              (view U (record { line = shut U (s .asks) end (s .line); asks = s .asks; account = account; store = store })) refl refl refl refl
+              (counted-same (U .pays (s .asks)) end (s .line .doubts)) kept
 
           module _ (r store : List ℕ) where
-            refuse-good : Good s h d (doneAfter (shut U (s .asks) quiet (s .line)) 0 by-refusal r) store
+            refuse-good : Good s h d (doneAfter (shut U (s .asks) refused (s .line)) 0 by-refusal r) store
             refuse-good = closes-good [] none-frame (nothing-sent h d o) refused _ store refused-kept
 
             lost-good : (put : List ℕ) → isFrame put ≡ false → Sends (U .bytes) (U .layout) h d put
-                → Tracks U (next U s (doneAfter (shut U (s .asks) longQuiet (s .line)) 0 by-doubt r) store) (done d put (closes unknown) ∷ h)
+                → Tracks U (next U s (doneAfter (shut U (s .asks) unknown (s .line)) 0 by-doubt r) store) (done d put (closes unknown) ∷ h)
             lost-good put e w = closes-good put e w unknown _ store unknown-kept
 
-            lose-good : Good s h d (doneAfter (shut U (s .asks) longQuiet (s .line)) 0 by-doubt r) store
+            lose-good : Good s h d (doneAfter (shut U (s .asks) unknown (s .line)) 0 by-doubt r) store
             lose-good = lost-good [] none-frame (nothing-sent h d o)
 
             -- where 15h may be sent
             module _ (long : 0 < length r) (may : Sends (U .bytes) (U .layout) h d (0x15 ∷ [])) where
-              nak-lose-good : Good s h d (doneAfter (shut U (s .asks) longQuiet (s .line)) 1 by-doubt (set r 0 0x15)) store
+              nak-lose-good : Good s h d (doneAfter (shut U (s .asks) unknown (s .line)) 1 by-doubt (set r 0 0x15)) store
               nak-lose-good =
-                  subst (λ (put : List ℕ). Tracks U (next U s (doneAfter (shut U (s .asks) longQuiet (s .line)) 1 by-doubt (set r 0 0x15)) store) (done d put (closes unknown) ∷ h))
+                  subst (λ (put : List ℕ). Tracks U (next U s (doneAfter (shut U (s .asks) unknown (s .line)) 1 by-doubt (set r 0 0x15)) store) (done d put (closes unknown) ∷ h))
                   (sym (one-put r 0x15 long)) (lost-good (0x15 ∷ []) (one-frame 0x15) may)
 
               nak-good : some (since h) ≡ true → (n : ℕ) → n ≡ s .line .naks + 1 → Good s h d (doneAfter (starting (s .line) nakWait n) 1 none (set r 0 0x15)) store
@@ -158,7 +160,7 @@ module _ {R X A C O : Type 0} (U : Model R X A C) where
                     wait = omega (arith, z, y);
                   } in
                   subst (λ (put : List ℕ). Follows (rules U) w (done d put goes-on ∷ h)) (sym (one-put r 0x15 long))
-                  (still-follows (rules U) o (one-frame 0x15) w t (λ c. refl) refl may later)
+                  (still-follows (rules U) o (one-frame 0x15) w t (λ c. refl) refl refl may later)
 
               -- a bad frame, or a late one
               bad-good : some (since h) ≡ true → (left : ℕ) → Good s h d (badStep U (waits (s .line) left) (s .asks) r) store
@@ -182,7 +184,7 @@ module _ {R X A C O : Type 0} (U : Model R X A C) where
       unfolding quietTime
       idle-heard e left whole =
           let m = waits (s .line) left in
-          quiet-good s h k t (hears b) tt m (s .store) refl
+          quiet-good s h k t (hears b) tt m (s .store) refl refl
           (subst (λ (p : Phase). At (rules U) (stage p) (view U (moved U s m (s .store))) (done (hears b) [] goes-on ∷ h)) (sym e)
           (idle-still (rules U) tt none-frame (view U (moved U s m (s .store))) refl (omega (arith, whole)) (at U s h t e)))
 
@@ -194,7 +196,7 @@ module _ {R X A C O : Type 0} (U : Model R X A C) where
           let x = at U s h t e in
           let z : eqb b 0x01 ≡ false = fails-false (same b 0x01) n in
           let m = waits (s .line) (s .line .left) in
-          quiet-good s h k t (hears b) tt m (s .store) refl
+          quiet-good s h k t (hears b) tt m (s .store) refl refl
           (subst (λ (p : Phase). At (rules U) (stage p) (view U (moved U s m (s .store))) (done (hears b) [] goes-on ∷ h)) (sym e)
           (record {
             is = open-still (rules U) tt none-frame (view U (moved U s m (s .store))) refl refl (omega arith) (x .is);
@@ -210,7 +212,7 @@ module _ {R X A C O : Type 0} (U : Model R X A C) where
           let w = view U (moved U s (handedAgain (s .line) n) (s .store)) in
           subst (λ (put : List ℕ). Follows (rules U) w (done (hears b) put goes-on ∷ h)) (sym (layout-put U K (s .asks) r (op .sent) long))
           (subst (λ (b : ℕ). Follows (rules U) w (done (hears b) (U .layout (s .asks)) goes-on ∷ h)) (sym z)
-          (again-follows (rules U) (view U s) h t (y .is) w refl refl more (omega arith) refl refl (λ c. refl) refl y (layout-frame U K (s .asks) (op .sent))))
+          (again-follows (rules U) (view U s) h t (y .is) w refl refl more (omega arith) refl refl (λ c. refl) refl refl y (layout-frame U K (s .asks) (op .sent))))
 
       first-heard : s .line .phase ≡ First → Heard (firstByte (s .line) b)
       unfolding firstByte
@@ -222,7 +224,7 @@ module _ {R X A C O : Type 0} (U : Model R X A C) where
           (λ g.
           let m = starting (s .line) answerWait (s .line .naks) in
           let z : cond (eqb (s .line .naks) 0) answerWait nakWait ≡ answerWait = cond-true _ _ (holds-true (same (s .line .naks) 0) (y .unsent)) in
-          quiet-good s h k t (hears b) tt m (s .store) refl
+          quiet-good s h k t (hears b) tt m (s .store) refl refl
           (record {
             is = open-still (rules U) tt none-frame (view U (moved U s m (s .store))) refl refl (omega arith) x;
             came = ap some (since-more h [] goes-on (hears b) none-frame) ∙ some-added (since h) b;
@@ -245,7 +247,7 @@ module _ {R X A C O : Type 0} (U : Model R X A C) where
       keep-heard left gathered least most x y z =
           let m = within (s .line) left gathered in
           let store = set (s .store) (s .line .gathered) b in
-          quiet-good s h k t (hears b) tt m store refl
+          quiet-good s h k t (hears b) tt m store refl refl
           (record {
             is = open-still (rules U) tt none-frame (view U (moved U s m store)) refl refl (omega arith) x;
             gathers = y;
@@ -274,10 +276,10 @@ module _ {R X A C O : Type 0} (U : Model R X A C) where
       module _ (x : OpenIn (rules U) (view U s) h) (op : Live U (s .line) (s .asks)) (store f : List ℕ)
           (came : some (since h) ≡ true) (last : lastOf (U .bytes .span (s .asks)) (bytes h ++ (b ∷ [])) ≡ f) where
         answer-good : (v : X) → U .judges (s .asks) f ≡ good v → (left : ℕ)
-            → Good s h (hears b) (doneAfter (shut U (s .asks) quiet (waits (s .line) left)) 1 (by-answer v) (set r 0 0x06)) store
+            → Good s h (hears b) (doneAfter (shut U (s .asks) answered (waits (s .line) left)) 1 (by-answer v) (set r 0 0x06)) store
         unfolding bytes
         answer-good v e left =
-            subst (λ (put : List ℕ). Tracks U (next U s (doneAfter (shut U (s .asks) quiet (s .line)) 1 (by-answer v) (set r 0 0x06)) store) (done (hears b) put (closes answered) ∷ h))
+            subst (λ (put : List ℕ). Tracks U (next U s (doneAfter (shut U (s .asks) answered (s .line)) 1 (by-answer v) (set r 0 0x06)) store) (done (hears b) put (closes answered) ∷ h))
             (sym (one-put r 0x06 (omega arith)))
             (closes-good s h k t (hears b) tt x op (0x06 ∷ []) (one-frame 0x06) (inr (inl refl)) answered _ store
             (λ c.
@@ -285,9 +287,9 @@ module _ {R X A C O : Type 0} (U : Model R X A C) where
             ∙ ap (λ (w : List ℕ). with-share (U .bytes) (totals (U .bytes) (x .older) c) (answered-by w) (s .asks) c) (sym last)))
 
         -- an answer which says that nothing was done
-        void-good : (left : ℕ) → Good s h (hears b) (doneAfter (shut U (s .asks) quiet (waits (s .line) left)) 1 by-refusal (set r 0 0x06)) store
+        void-good : (left : ℕ) → Good s h (hears b) (doneAfter (shut U (s .asks) refused (waits (s .line) left)) 1 by-refusal (set r 0 0x06)) store
         void-good left =
-            subst (λ (put : List ℕ). Tracks U (next U s (doneAfter (shut U (s .asks) quiet (s .line)) 1 by-refusal (set r 0 0x06)) store) (done (hears b) put (closes refused) ∷ h))
+            subst (λ (put : List ℕ). Tracks U (next U s (doneAfter (shut U (s .asks) refused (s .line)) 1 by-refusal (set r 0 0x06)) store) (done (hears b) put (closes refused) ∷ h))
             (sym (one-put r 0x06 (omega arith)))
             (closes-good s h k t (hears b) tt x op (0x06 ∷ []) (one-frame 0x06) (inr (inl refl)) refused _ store (refused-kept s h k t (hears b) tt x op))
 
@@ -341,7 +343,7 @@ module _ {R X A C O : Type 0} (U : Model R X A C) where
       waiting-on : (left : ℕ) → left ≡ s .line .left - ms → Passed (turn (waits (s .line) left) Nothing)
       unfolding quietTime
       waiting-on left q =
-          quiet-good s h k t (passes ms) tt (waits (s .line) left) (s .store) refl (by (s .line .phase) (t .place))
+          quiet-good s h k t (passes ms) tt (waits (s .line) left) (s .store) refl refl (by (s .line .phase) (t .place))
         where
           longer : waited turns (done (passes ms) [] goes-on ∷ h) ≡ waited turns h + ms
           longer = waited-tick h goes-on ms
@@ -383,7 +385,7 @@ module _ {R X A C O : Type 0} (U : Model R X A C) where
       passed-good =
           pick Passed (under ms (s .line .left)) _ _ (λ g. waiting-on (s .line .left - ms) refl) (λ n. expired-good n)
 
-    -- ---- the three calls
+    -- ---- the calls
 
     module _ (s : Box R A) (h : History R O Ending) (k : Sound U s) (t : Tracks U s h) where
       -- with nothing open, the line is idle
@@ -393,13 +395,19 @@ module _ {R X A C O : Type 0} (U : Model R X A C) where
       idle-at Start n x = absurd (n refl)
       idle-at Inside n x = absurd (n refl)
 
+      idle-stage : (p : Phase) → (isOpen p ≡ true → ⊥) → stage p ≡ idle
+      idle-stage Idle n = refl
+      idle-stage First n = absurd (n refl)
+      idle-stage Start n = absurd (n refl)
+      idle-stage Inside n = absurd (n refl)
+
       -- a request is accepted on an idle line
       opened-good : (q : R) (r : List ℕ) → U .sendable q .holds → 16 ≤ length r → IdleIn (rules U) (view U s) h
           → Tracks U (opening U s q) (done (asks q) (take (U .hands q r .put) (U .hands q r .room)) goes-on ∷ h)
       opened-good q r sent long x =
           let w = view U (opening U s q) in
           subst (λ (put : List ℕ). Follows (rules U) w (done (asks q) put goes-on ∷ h)) (sym (layout-put U K q r sent long))
-          (opened-follows (rules U) (view U s) w h t x refl refl refl refl (lit≤ tt) refl (layout-frame U K q sent)
+          (opened-follows (rules U) (view U s) w h t x refl refl refl refl (lit≤ tt) refl refl (layout-frame U K q sent)
           (λ c.
           ap plain (K .opens (s .account) q c)
           ∙ together (shows-opened (U .bytes) (U .cassette (s .account) c) (sums (U .bytes) h c) q c (roomy U K s k c) (apart (t .books c)) (x .over c) (le-trans (K .modest q c sent) (K .small)))))
@@ -426,6 +434,15 @@ module _ {R X A C O : Type 0} (U : Model R X A C) where
           either-way (λ (w : After (Box R A) (Reply X)). Tracks U (w .session) (told ending (passes ms) (w .reply) (w .room) ∷ h)) (tickRefusals U ms r) (left U s r) _
           (λ why. declined-follows (rules U) (view U s) h t)
           (λ n. passed-good s h k t ms r (certain (atMost 16 (length r)) (λ w. n .0 (omega arith))))
+
+      pub clear-tracks : (o : O) → Tracks U (called-clear U s .session) (told ending (own o) (called-clear U s .reply) (called-clear U s .room) ∷ h)
+      unfolding called-clear clearRefusals least
+      clear-tracks o =
+          either-way (λ (w : After (Box R A) (Reply X)). Tracks U (w .session) (told ending (own o) (w .reply) (w .room) ∷ h)) (clearRefusals U (s .line)) (left U s []) _
+          (λ why. declined-follows (rules U) (view U s) h t)
+          (λ n.
+          let x = idle-at (s .line .phase) (n .0) (t .place) in
+          cleared-follows (rules U) (view U s) (view U (cleared U s)) h o t x (idle-stage (s .line .phase) (n .0)) refl refl refl refl (λ c. refl))
 
       -- while a command is open, what is open of a cassette is what was asked of it
       pub open-pending : (c : C) → isOpen (s .line .phase) ≡ true → U .cassette (s .account) c .pending .0 ≡ U .bytes .wants (s .asks) c

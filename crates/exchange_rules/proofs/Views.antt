@@ -13,7 +13,7 @@ use Rattle.ledger.specs.Waiting.{some}
 use Rattle.ledger.specs.Told.{begun}
 use Rattle.ledger.proofs.Waiting.{begun-more, begun-last}
 use Rattle.ledger.proofs.Follows.{Stage, idle, first, start, inside, View, Rules, At, Follows}
-use Rattle.exchange_rules.specs.Limits.{quiet}
+use Rattle.exchange_rules.specs.Limits.{quiet, doubtLimit}
 use Rattle.exchange_rules.specs.Machine.{Model, Box, discipline, quietAfter, plain}
 use Rattle.exchange_rules.specs.Kept.{Stands, Sound}
 use Rattle.exchange_rules.specs.Owed.{Lawful}
@@ -51,11 +51,12 @@ module _ {R X A C : Type 0} (U : Model R X A C) where
         quiet = s .line .quiet;
         left = s .line .left;
         count = s .line .accepted;
+        doubts = s .line .doubts;
         kept = λ c. plain (U .cassette (s .account) c);
       }
 
   abbrev pub rules : Rules R X C
-  rules = record { unit = U .bytes; line = discipline U; after = quietAfter U; fresh = quiet }
+  rules = record { unit = U .bytes; line = discipline U; after = quietAfter U; fresh = quiet; pays = U .pays; stop = doubtLimit }
 
   -- the session stands where the history says
   abbrev pub Tracks : {O : Type 0} → Box R A → History R O Ending → Type 0

@@ -2,7 +2,8 @@
 use Prim.Native.Nat.{ℕ, _+_, _-_}
 use mathlib.Core.Bool.{Bool, true, false, cond}
 use lib.Dec.{ltb, eqb}
-use Rattle.exchange_rules.specs.Limits.{quiet, longQuiet, firstWait, answerWait, nakWait, frameWait, handOvers, nakLimit}
+use Rattle.ledger.specs.Account.{Ending, answered, refused, unknown}
+use Rattle.exchange_rules.specs.Limits.{quiet, longQuiet, firstWait, answerWait, nakWait, frameWait, handOvers, nakLimit, doubtLimit}
 use Rattle.exchange_rules.specs.declared.line.Phase.{Phase}
 use Rattle.exchange_rules.specs.declared.line.Phase.the-variants.{Idle, First, Start, Inside}
 use Rattle.exchange_rules.specs.declared.line.Line.{Line}
@@ -23,7 +24,7 @@ hearing l h = record { line = l; heard = h }
 
 -- "A fresh session has .. no open command and zero quiet time"
 abbrev pub freshLine : Line
-freshLine = record { left = quiet; quiet = quiet; accepted = 0; handed = 0; naks = 0; gathered = 0; phase = Idle }
+freshLine = record { left = quiet; quiet = quiet; accepted = 0; handed = 0; naks = 0; gathered = 0; doubts = 0; phase = Idle }
 
 -- a command is open
 abbrev pub isOpen : Phase → Bool
@@ -32,29 +33,61 @@ isOpen First = true
 isOpen Start = true
 isOpen Inside = true
 
--- "Request accepted: the frame is handed over": the first hand-over of a command, the so many-th accepted
-abbrev pub opened : ℕ → Line
-opened accepted = record { left = firstWait; quiet = quiet; accepted = accepted; handed = 1; naks = 0; gathered = 0; phase = First }
+-- "Request accepted: the frame is handed over": the first hand-over of one command more
+abbrev pub opened : Line → ℕ → Line
+opened l accepted = record { left = firstWait; quiet = quiet; accepted = accepted; handed = 1; naks = 0; gathered = 0; doubts = l .doubts; phase = First }
 
 -- handed over again, the so many-th time
 abbrev pub handedAgain : Line → ℕ → Line
-handedAgain l n = record { left = firstWait; quiet = l .quiet; accepted = l .accepted; handed = n; naks = l .naks; gathered = 0; phase = First }
+handedAgain l n = record { left = firstWait; quiet = l .quiet; accepted = l .accepted; handed = n; naks = l .naks; gathered = 0; doubts = l .doubts; phase = First }
 
 -- closed: quiet time is 0, and the next command needs so much. How often the command was handed over is still known
 abbrev pub closed : Line → ℕ → Line
-closed l need = record { left = need; quiet = need; accepted = l .accepted; handed = l .handed; naks = 0; gathered = 0; phase = Idle }
+closed l need = record { left = need; quiet = need; accepted = l .accepted; handed = l .handed; naks = 0; gathered = 0; doubts = l .doubts; phase = Idle }
 
 -- waiting for an answer to start
 abbrev pub starting : Line → ℕ → ℕ → Line
-starting l left naks = record { left = left; quiet = l .quiet; accepted = l .accepted; handed = l .handed; naks = naks; gathered = 0; phase = Start }
+starting l left naks = record { left = left; quiet = l .quiet; accepted = l .accepted; handed = l .handed; naks = naks; gathered = 0; doubts = l .doubts; phase = Start }
 
 -- inside an answer
 abbrev pub inside : Line → ℕ → ℕ → Line
-inside l left gathered = record { left = left; quiet = l .quiet; accepted = l .accepted; handed = l .handed; naks = l .naks; gathered = gathered; phase = Inside }
+inside l left gathered = record { left = left; quiet = l .quiet; accepted = l .accepted; handed = l .handed; naks = l .naks; gathered = gathered; doubts = l .doubts; phase = Inside }
 
 -- the same, with so much left of its wait
 abbrev pub waits : Line → ℕ → Line
-waits l left = record { left = left; quiet = l .quiet; accepted = l .accepted; handed = l .handed; naks = l .naks; gathered = l .gathered; phase = l .phase }
+waits l left = record { left = left; quiet = l .quiet; accepted = l .accepted; handed = l .handed; naks = l .naks; gathered = l .gathered; doubts = l .doubts; phase = l .phase }
+
+-- the same, with so many paying commands closed unknown in succession
+abbrev pub doubted : Line → ℕ → Line
+doubted l n =
+    record {
+      left = l .left;
+      quiet = l .quiet;
+      accepted = l .accepted;
+      handed = l .handed;
+      naks = l .naks;
+      gathered = l .gathered;
+      doubts = n;
+      phase = l .phase;
+    }
+
+-- "Two paying requests in succession which closed unknown": one more; more than two are not counted
+unfoldable pub oneMore : ℕ → ℕ
+oneMore n = cond (ltb n doubtLimit) (n + 1) n
+
+-- how many paying commands in succession closed unknown, after the closing of one: "an answered or refused payout" breaks the succession
+abbrev pub doubtsBy : Ending → ℕ → ℕ
+doubtsBy answered n = 0
+doubtsBy refused n = 0
+doubtsBy unknown n = oneMore n
+
+-- and after the closing of any command: "Status, purge and test .. do not break the succession"
+abbrev pub doubtsAfter : Bool → Ending → ℕ → ℕ
+doubtsAfter pays end n = cond pays (doubtsBy end n) n
+
+-- the line, at the closing of a command that pays or does not
+abbrev pub ends : Line → Bool → Ending → Line
+ends l pays end = doubted l (doubtsAfter pays end (l .doubts))
 
 -- closed as unknown
 abbrev pub closedUnknown : Line → Turn

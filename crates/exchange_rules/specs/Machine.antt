@@ -1,18 +1,20 @@
 -- A dispenser session over any unit (01, "The dispenser session" and "The account"): what the line's discipline, a unit's frames and its account make
 -- together, call by call. R is what is asked of the unit, X what a good answer says, A the account, C the cassettes.
 use Prim.Native.Nat.{ℕ, _+_}
+use mathlib.Core.Bool.{Bool}
 use mathlib.Core.List.{List, [], _∷_}
 use lib.ListN.{length, take, set}
-use Rattle.refusals.specs.Rules.{Condition, Rule, says, under, atMost, within, isnt, judged, _gives_}
-use Rattle.ledger.specs.Events.{Deed, asks, hears, waits, History}
+use Rattle.refusals.specs.Rules.{Condition, Rule, says, under, atMost, within, both, isnt, judged, _gives_}
+use Rattle.ledger.specs.Events.{Deed, asks, hears, waits, own, History}
 use Rattle.ledger.specs.Line.{isOpen as isOpenIn, quietTime, quietNeeded, accepted}
 use Rattle.ledger.specs.Account.{Ending, answered, refused, unknown, Dispenser, Totals}
+use Rattle.ledger.specs.Stopped.{succession}
 use Rattle.ledger.specs.Calls.{After, Returned, gave, did, Host}
 use Rattle.ledger.specs.Told.{Verdict, bad, good, void, Closing, none, by-answer, by-refusal, by-doubt, ending, Discipline}
 use Rattle.refusals.specs.declared.Declined.{Declined}
-use Rattle.refusals.specs.declared.Declined.the-variants.{Room, Range, Open, Unquiet, Spent, Tick}
-use Rattle.exchange_rules.specs.Limits.{quiet, longQuiet, firstWait, answerWait, nakWait, frameWait, handOvers, nakLimit, leastRoom, commandLimit, longestTick}
-use Rattle.exchange_rules.specs.Exchange.{opened, closed, isOpen, heard, badFrame, passed}
+use Rattle.refusals.specs.declared.Declined.the-variants.{Room, Range, Open, Unquiet, Spent, Tick, Stopped}
+use Rattle.exchange_rules.specs.Limits.{quiet, longQuiet, firstWait, answerWait, nakWait, frameWait, handOvers, nakLimit, doubtLimit, leastRoom, commandLimit, longestTick}
+use Rattle.exchange_rules.specs.Exchange.{opened, closed, doubted, ends, isOpen, heard, badFrame, passed}
 use Rattle.exchange_rules.specs.declared.notes.Sums.{Sums}
 use Rattle.exchange_rules.specs.declared.line.Line.{Line}
 use Rattle.exchange_rules.specs.declared.line.Todo.{Todo}
@@ -25,14 +27,15 @@ pub record Handed : Type 0 where
   pub put : ℕ
   pub room : List ℕ
 
--- a unit: what can be sent, and in which bytes; what a full frame is; the quiet that a closing asks beyond the line's; what becomes of the account; and
--- by `bytes` what is asked of each cassette and what an answer's bytes say of it; the length of its longest answer, and the greatest count there can be
+-- a unit: what can be sent, and in which bytes; what a full frame is; the quiet that a closing asks beyond the line's; which commands pay, so that two of them which
+-- closed unknown stop it (a unit that is never stopped has none); what becomes of the account; and by `bytes` what is asked of each cassette and what an answer's bytes say of it; the length of its longest answer, and the greatest count there can be
 pub record Model (R X A C : Type 0) : Type 1 where
   pub sendable : R → Condition
   pub layout : R → List ℕ
   pub hands : R → List ℕ → Handed
   pub judges : R → List ℕ → Verdict X
   pub more : R → ℕ
+  pub pays : R → Bool
   pub cassette : A → C → Sums
   pub opens : A → R → A
   pub closes-refused : A → R → A
@@ -87,18 +90,22 @@ module _ {R X A C : Type 0} (U : Model R X A C) where
         frame = frameWait;
       }
 
-  -- the line at a closing: so much quiet, and what the unit asks beyond it
-  abbrev pub shut : R → ℕ → Line → Line
-  shut q n l = closed l (n + U .more q)
+  -- the quiet that a closing asks for: the line's, and what the unit asks beyond it
+  abbrev pub quietAfter : R → Ending → ℕ
+  quietAfter q end = lineQuiet end + U .more q
+
+  -- the line at a closing
+  abbrev pub shut : R → Ending → Line → Line
+  shut q end l = ends (closed l (quietAfter q end)) (U .pays q) end
 
   -- what the exchange says is to be done
   abbrev pub acted : Todo → Line → R → List ℕ → StepAfter X
   acted Nothing l q r = doneAfter l 0 none r
   acted HandOver l q r = doneAfter l (U .hands q r .put) none (U .hands q r .room)
   acted Nak l q r = doneAfter l 1 none (set r 0 0x15)
-  acted LastNak l q r = doneAfter (shut q longQuiet l) 1 by-doubt (set r 0 0x15)
-  acted CloseRefused l q r = doneAfter (shut q quiet l) 0 by-refusal r
-  acted CloseUnknown l q r = doneAfter (shut q longQuiet l) 0 by-doubt r
+  acted LastNak l q r = doneAfter (shut q unknown l) 1 by-doubt (set r 0 0x15)
+  acted CloseRefused l q r = doneAfter (shut q refused l) 0 by-refusal r
+  acted CloseUnknown l q r = doneAfter (shut q unknown l) 0 by-doubt r
 
   -- "Any other full frame (bad), or lateness inside one"
   unfoldable pub badStep : Line → R → List ℕ → StepAfter X
@@ -107,8 +114,8 @@ module _ {R X A C : Type 0} (U : Model R X A C) where
   -- "Good answer with the code asked: send 06h and close as answered."; "after our 06h it closes as refused" (02, Q-3)
   abbrev pub judgedStep : Verdict X → Line → R → List ℕ → StepAfter X
   judgedStep bad l q r = badStep l q r
-  judgedStep (good x) l q r = doneAfter (shut q quiet l) 1 (by-answer x) (set r 0 0x06)
-  judgedStep void l q r = doneAfter (shut q quiet l) 1 by-refusal (set r 0 0x06)
+  judgedStep (good x) l q r = doneAfter (shut q answered l) 1 (by-answer x) (set r 0 0x06)
+  judgedStep void l q r = doneAfter (shut q refused l) 1 by-refusal (set r 0 0x06)
 
   unfoldable pub judgeStep : Line → R → List ℕ → List ℕ → StepAfter X
   judgeStep l q store r = judgedStep (U .judges q (take (U .bytes .span q) store)) l q r
@@ -119,7 +126,8 @@ module _ {R X A C : Type 0} (U : Model R X A C) where
   byteActed Judge l q store at b r = record { step = judgeStep l q (set store at b) r; store = set store at b }
   byteActed (Do t) l q store at b r = record { step = acted t l q r; store = store }
 
-  -- "received bytes 1"; "ticks 1 and 6"; "Requests can meet 1 to 5"
+  -- "received bytes 1"; "ticks 1 and 6"; "Requests can meet 1 to 5", and "paying requests get the new number 7, after number 5 in order"; "Clear is refused with 3
+  -- while a command is open" (02, Q-9)
   unfoldable pub byteRefusals : List ℕ → List (Rule Declined)
   byteRefusals r = under (length r) leastRoom gives Room ∷ []
 
@@ -133,7 +141,11 @@ module _ {R X A C : Type 0} (U : Model R X A C) where
       ∷ says (isOpen (l .phase)) gives Open
       ∷ under 0 (l .left) gives Unquiet
       ∷ atMost commandLimit (l .accepted) gives Spent
+      ∷ both (atMost doubtLimit (l .doubts)) (says (U .pays q)) gives Stopped
       ∷ []
+
+  unfoldable pub clearRefusals : Line → List (Rule Declined)
+  clearRefusals l = says (isOpen (l .phase)) gives Open ∷ []
 
   -- the account, booked from what a call answered
   abbrev pub closedBy : A → R → Closing X → A
@@ -152,13 +164,13 @@ module _ {R X A C : Type 0} (U : Model R X A C) where
 
   -- the session with one command more, just opened
   abbrev pub opening : Box R A → R → Box R A
-  opening s q = record { line = opened (s .line .accepted + 1); asks = q; account = U .opens (s .account) q; store = s .store }
+  opening s q = record { line = opened (s .line) (s .line .accepted + 1); asks = q; account = U .opens (s .account) q; store = s .store }
 
   -- the call was declined
   abbrev pub left : Box R A → List ℕ → Declined → After (Box R A) (Reply X)
   left s r why = record { session = s; reply = gave why; room = r }
 
-  -- the three calls
+  -- the calls
   unfoldable pub called-request : Box R A → R → List ℕ → After (Box R A) (Reply X)
   called-request s q r =
       judged (requestRefusals (s .line) q r) (left s r)
@@ -179,39 +191,46 @@ module _ {R X A C : Type 0} (U : Model R X A C) where
       judged (tickRefusals ms r) (left s r)
       (ofStep s (record { step = acted (passed (s .line) ms .todo) (passed (s .line) ms .line) (s .asks) r; store = s .store }))
 
-  -- and the unit may ask for more
-  abbrev pub quietAfter : R → Ending → ℕ
-  quietAfter q e = lineQuiet e + U .more q
+  -- "Clear .. starts the succession afresh and changes no sum"
+  abbrev pub cleared : Box R A → Box R A
+  cleared s = record { line = doubted (s .line) 0; asks = s .asks; account = s .account; store = s .store }
 
--- a call on a session, with any arguments and any room
-pub data Call (R : Type 0) : Type 0 where
-  request : R → List ℕ → Call R
-  byte : ℕ → List ℕ → Call R
-  tick : ℕ → List ℕ → Call R
+  unfoldable pub called-clear : Box R A → After (Box R A) (Reply X)
+  called-clear s = judged (clearRefusals (s .line)) (left s []) (record { session = cleared s; reply = did 0 none; room = [] })
 
--- the room that is lent to it
-abbrev pub lent : {R : Type 0} → Call R → List ℕ
+-- a call on a session, with any arguments and any room; O has the operator's clear, and is empty for a unit that is never stopped
+pub data Call (R O : Type 0) : Type 0 where
+  request : R → List ℕ → Call R O
+  byte : ℕ → List ℕ → Call R O
+  tick : ℕ → List ℕ → Call R O
+  clear : O → Call R O
+
+-- the room that is lent to it; clear is lent none
+abbrev pub lent : {R O : Type 0} → Call R O → List ℕ
 lent (request q r) = r
 lent (byte b r) = r
 lent (tick ms r) = r
+lent (clear o) = []
 
-abbrev pub deed : {R O : Type 0} → Call R → Deed R O
+abbrev pub deed : {R O : Type 0} → Call R O → Deed R O
 deed (request q r) = asks q
 deed (byte b r) = hears b
 deed (tick ms r) = waits ms
+deed (clear o) = own o
 
 module _ {R X A C : Type 0} (U : Model R X A C) where
-  abbrev pub called : Box R A → Call R → After (Box R A) (Reply X)
+  abbrev pub called : {O : Type 0} → Box R A → Call R O → After (Box R A) (Reply X)
   called s (request q r) = called-request U s q r
   called s (byte b r) = called-byte U s b r
   called s (tick ms r) = called-tick U s ms r
+  called s (clear o) = called-clear U s
 
   -- as its caller sees it
-  abbrev pub host : {O : Type 0} → Host (Box R A) (Call R) (Reply X) R O (Closing X) Ending
+  abbrev pub host : {O : Type 0} → Host (Box R A) (Call R O) (Reply X) R O (Closing X) Ending
   host = record { called = called; deed = λ s c. deed c; returned = λ p. p; refused = gave; ending = ending }
 
-  -- "Requests can meet 1 to 5, received bytes 1, ticks 1 and 6", told from the history
-  unfoldable pub historyRefusals : {O : Type 0} → History R O Ending → Call R → List (Rule Declined)
+  -- "Requests can meet 1 to 5, received bytes 1, ticks 1 and 6", paying requests 7 as well, and clear 3, told from the history
+  unfoldable pub historyRefusals : {O : Type 0} → History R O Ending → Call R O → List (Rule Declined)
   historyRefusals h (byte b r) = under (length r) leastRoom gives Room ∷ []
   historyRefusals h (tick ms r) = under (length r) leastRoom gives Room ∷ isnt (within 1 longestTick ms) gives Tick ∷ []
   historyRefusals h (request q r) =
@@ -220,7 +239,9 @@ module _ {R X A C : Type 0} (U : Model R X A C) where
       ∷ says (isOpenIn h) gives Open
       ∷ under (quietTime h) (quietNeeded (quietAfter U) quiet h) gives Unquiet
       ∷ atMost commandLimit (accepted h) gives Spent
+      ∷ both (atMost doubtLimit (succession (U .bytes) (U .pays) h)) (says (U .pays q)) gives Stopped
       ∷ []
+  historyRefusals h (clear o) = says (isOpenIn h) gives Open ∷ []
 
 -- the sums that a session keeps, as plain numbers
 abbrev pub plain : Sums → Totals

@@ -42,7 +42,7 @@ saying says (did n c) = did n (says c)
 pub record Session {R X A C S T P O Q : Type 0} (U : Model R X A C) (H : Host S T P R O Q Ending) : Type 1 where
   pub keeps : S → Type 0
   pub box : S → Box R A
-  pub means : S → T → Call R
+  pub means : S → T → Call R O
   pub says : Q → Closing X
   pub lends : T → List ℕ
   pub kept : (s : S) (t : T) → keeps s → keeps (H .called s t .session)

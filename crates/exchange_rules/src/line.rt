@@ -19,11 +19,13 @@ pub struct Line {
     // Commands accepted.
     pub accepted: u64,
     // Hand-overs of the open command.
-    pub handed: u64,
+    pub handed: u32,
     // 15h that we sent for the open command.
-    pub naks: u64,
+    pub naks: u32,
     // Bytes of an answer gathered.
     pub gathered: usize,
+    // Paying commands that closed unknown in succession, up to the two that stop the line.
+    pub doubts: u32,
     pub phase: Phase,
 }
 
@@ -73,11 +75,13 @@ impl Line {
 
     pub const FRAME: u64 = 200;
 
-    pub const HAND_OVERS: u64 = 4;
+    pub const HAND_OVERS: u32 = 4;
 
-    pub const NAKS: u64 = 3;
+    pub const NAKS: u32 = 3;
 
     pub const COMMANDS: u64 = 1_000_000;
+
+    pub const DOUBTS: u32 = 2;
 
     pub const ROOM: usize = 16;
 
@@ -94,6 +98,7 @@ impl Line {
             handed: 0,
             naks: 0,
             gathered: 0,
+            doubts: 0,
             phase: Phase::Idle,
         }
     }

@@ -6,7 +6,7 @@ use mathlib.Core.List.{List, []}
 use native.Mathlib.Omega.{arith}
 use lib.ListN.{length, drop}
 use borrow.Author.Tests.{le-ltb}
-use Rattle.dispenser_rules.specs.Session.{sessionRequest, sessionByte, sessionTick}
+use Rattle.dispenser_rules.specs.Session.{sessionRequest, sessionByte, sessionTick, sessionClear}
 use Rattle.validator_rules.specs.Session.{sessionRequest as takerRequest, sessionByte as takerByte, sessionTick as takerTick}
 use Rattle.validator_rules.specs.Limits.{types}
 use Rattle.validator_rules.specs.Bills.{bookedBy}
@@ -17,7 +17,7 @@ use Rattle.recording.specs.Taking.{foundAt}
 use Rattle.recording.specs.declared.Fault.{Fault}
 use Rattle.recording.specs.declared.Fault.the-variants.{Long}
 use Rattle.recording.specs.declared.Record.{Record}
-use Rattle.recording.specs.declared.Record.the-variants.{Request, DispenserByte, Tick, ValidatorByte, Command}
+use Rattle.recording.specs.declared.Record.the-variants.{Request, DispenserByte, Tick, ValidatorByte, Command, Clear}
 use Rattle.recording.specs.declared.taking.NextRecord.{NextRecord}
 use Rattle.recording.specs.declared.taking.NextRecord.the-variants.{Whole, Bad}
 use Rattle.recording.proofs.Folds.{reading-end, reading-short, reading-long}
@@ -69,6 +69,7 @@ given-counts d (Tick ms) =
     (refl, once (payerDeclines (sessionTick (d .dispenser) ms (d .room) .reply) || takerDeclines (takerTick (d .validator) ms (d .room255) .reply)) (d .declined))
 given-counts d (ValidatorByte b) = (refl, once (takerDeclines (takerByte (d .validator) b (d .room255) .reply)) (d .declined))
 given-counts d (Command code) = (refl, once (takerDeclines (takerRequest (d .validator) code [] (d .room255) .reply)) (d .declined))
+given-counts d Clear = (refl, once (payerDeclines (sessionClear (d .dispenser) .reply)) (d .declined))
 
 pub counts : (d d′ : Desk) (x : Record) → d′ ≡ given d x → (d′ .records ≡ d .records + 1) × (d′ .declined ≤ d .declined + 1)
 counts d d′ x e =

@@ -6,7 +6,7 @@ ghost use mathlib.Core.List.{List};
 ghost use Prim.Native.Nat.{ℕ, _+_, _<_};
 ghost use Rattle.validator_rules.specs.Bills.{bookedBy};
 ghost use Rattle.validator_rules.specs.declared.bills.Bills.{Bills};
-ghost use Rattle.recording.specs.declared.Record.the-variants.{Request, DispenserByte, Tick, ValidatorByte, Command};
+ghost use Rattle.recording.specs.declared.Record.the-variants.{Request, DispenserByte, Tick, ValidatorByte, Command, Clear};
 ghost use Rattle.grading_rules.specs.Replay.{payerDeclines, takerDeclines, given, badFindings, replayOf};
 ghost use Rattle.grading.specs.Scaffolding.{runOf, entered, joined};
 ghost use Rattle.grading.specs.declared.desk.Books.{Books};
@@ -52,6 +52,7 @@ fn assembled(
             handed: payer.handed,
             naks: payer.naks,
             gathered: payer.gathered,
+            doubts: payer.doubts,
             phase,
         },
         asked: Asked {
@@ -254,6 +255,27 @@ fn commanded(run: Run, code: u8, room255: &mut [u8; 255]) -> Moved
     }
 }
 
+// The operator clears the dispenser's line.
+fn cleared(run: Run) -> Moved
+    requires { ⌜ run .declined < 4_294_967_296 ⌝ }
+    requires { ⌜ run .records < 4_294_967_296 ⌝ }
+    ensures { λ r. ⌜ ((a : Books) (bs : List Bills) (store store255 room room255 : List ℕ) → joined (r .run) (entered a (r .run .asked) (r .entry)) (bookedBy bs (r .bill)) store store255 room room255 ≡ given (joined run a bs store store255 room room255) Clear) ⌝ }
+{
+    let payer = run.payer;
+    let asked = run.asked;
+    let taker = run.taker;
+    let step = dispenser::step_clear(payer);
+    let next = step.line;
+    let reply = step.reply;
+    let declined = counted(run.declined, payer_declines(reply));
+    let records = run.records + 1;
+    Moved {
+        run: assembled(next, asked, taker, declined, records),
+        entry: Entry::Nothing,
+        bill: validator_rules::Session::TYPES,
+    }
+}
+
 // A record, given to the session that it is for.
 fn step(
     run: Run,
@@ -273,6 +295,7 @@ fn step(
         Record::Tick(ms) => ticked(run, store255, ms, room, room255),
         Record::ValidatorByte(b) => validator_byte(run, store255, b, room255),
         Record::Command(code) => commanded(run, code, room255),
+        Record::Clear => cleared(run),
     }
 }
 

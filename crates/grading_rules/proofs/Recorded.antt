@@ -6,16 +6,18 @@ use mathlib.Core.Bool.{Bool, true, false, cond}
 use mathlib.Core.List.{List, [], _∷_}
 use native.Mathlib.Omega.{arith}
 use lib.ListN.{length}
-use Rattle.dispenser_rules.specs.Session.{freshSession}
+use Rattle.refusals.proofs.Rules.{either-way}
+use Rattle.dispenser_rules.specs.Session.{refusedStep, clearRefusals, clearStep, freshSession, sessionClear}
 use Rattle.ledger.specs.Calls.{run as ran}
 use Rattle.dispenser_rules.specs.Calls.{host}
 use Rattle.exchange_rules.specs.Machine.{plain}
 use Rattle.dispenser_rules.specs.Unit.{cassette}
-use Rattle.dispenser_rules.specs.Errors.{noErrors, lastOf, errorsFrom}
+use Rattle.dispenser_rules.specs.Errors.{noErrors, lastOf, erredBy, errorsFrom}
 use Rattle.dispenser_rules.specs.declared.errors.LastErrors.{LastErrors}
 use Rattle.dispenser_rules.proofs.Demand3.{demand3}
 use Rattle.dispenser_rules.proofs.LastErrors.{errors-by-history}
 use Rattle.dispenser_rules.specs.declared.session.Session.{Session}
+use Rattle.dispenser_rules.specs.declared.session.Step.{Step}
 use Rattle.validator_rules.specs.Session.{freshSession as freshTaker}
 use Rattle.validator_rules.specs.Calls.{host as takerHost}
 use Rattle.validator_rules.specs.declared.session.Session.{Session as Taker}
@@ -24,7 +26,7 @@ use Rattle.recording.specs.Record.{AllInRange}
 use Rattle.recording.proofs.Exact.{exactly-when}
 use Rattle.recording.specs.Reading.{records, readRecording}
 use Rattle.recording.specs.declared.Record.{Record}
-use Rattle.recording.specs.declared.Record.the-variants.{Request, DispenserByte, Tick, ValidatorByte, Command}
+use Rattle.recording.specs.declared.Record.the-variants.{Request, DispenserByte, Tick, ValidatorByte, Command, Clear}
 use Rattle.grading_rules.specs.Replay.{Desk, freshDesk, given, run, told, replayed, replayOf}
 use Rattle.grading_rules.specs.Promises.{calls, takerCalls, refuses, refusals, AsRecorded}
 use Rattle.grading_rules.specs.declared.findings.Findings.{Findings}
@@ -37,6 +39,7 @@ dispenser-ran d (DispenserByte b ∷ xs) = dispenser-ran (given d (DispenserByte
 dispenser-ran d (Tick ms ∷ xs) = dispenser-ran (given d (Tick ms)) xs
 dispenser-ran d (ValidatorByte b ∷ xs) = dispenser-ran (given d (ValidatorByte b)) xs
 dispenser-ran d (Command code ∷ xs) = dispenser-ran (given d (Command code)) xs
+dispenser-ran d (Clear ∷ xs) = dispenser-ran (given d Clear) xs
 
 pub validator-ran : (d : Desk) (xs : List Record) (i : AllInRange xs) → run d xs .validator ≡ ran takerHost (d .validator) (takerCalls d xs i)
 unfolding run takerCalls ran
@@ -46,6 +49,12 @@ validator-ran d (DispenserByte b ∷ xs) i = validator-ran (given d (DispenserBy
 validator-ran d (Tick ms ∷ xs) i = validator-ran (given d (Tick ms)) xs (i .1)
 validator-ran d (ValidatorByte b ∷ xs) i = validator-ran (given d (ValidatorByte b)) xs (i .1)
 validator-ran d (Command code ∷ xs) i = validator-ran (given d (Command code)) xs (i .1)
+validator-ran d (Clear ∷ xs) i = validator-ran (given d Clear) xs (i .1)
+
+-- the operator's clear leaves them
+clear-errors : (e : LastErrors) (s : Session) → e ≡ erredBy e (sessionClear s .reply)
+unfolding sessionClear clearStep
+clear-errors e s = either-way (λ (w : Step). e ≡ erredBy e (w .reply)) (clearRefusals (s .line)) (refusedStep (s .line)) _ (λ why. refl) (λ n. refl)
 
 -- the last errors are those after the same calls
 errors-ran : (d : Desk) (xs : List Record) → run d xs .errors ≡ errorsFrom (d .dispenser) (d .errors) (calls d xs)
@@ -56,6 +65,8 @@ errors-ran d (DispenserByte b ∷ xs) = errors-ran (given d (DispenserByte b)) x
 errors-ran d (Tick ms ∷ xs) = errors-ran (given d (Tick ms)) xs
 errors-ran d (ValidatorByte b ∷ xs) = errors-ran (given d (ValidatorByte b)) xs
 errors-ran d (Command code ∷ xs) = errors-ran (given d (Command code)) xs
+errors-ran d (Clear ∷ xs) =
+    errors-ran (given d Clear) xs ∙ ap (λ (e : LastErrors). errorsFrom (sessionClear (d .dispenser) .session) e (calls (given d Clear) xs)) (clear-errors (d .errors) (d .dispenser))
 
 -- ---- counts
 
@@ -69,6 +80,7 @@ given-declined d (DispenserByte b) = refl
 given-declined d (Tick ms) = refl
 given-declined d (ValidatorByte b) = refl
 given-declined d (Command code) = refl
+given-declined d Clear = refl
 
 given-records : (d : Desk) (x : Record) → given d x .records ≡ d .records + 1
 given-records d (Request code upper lower) = refl
@@ -76,6 +88,7 @@ given-records d (DispenserByte b) = refl
 given-records d (Tick ms) = refl
 given-records d (ValidatorByte b) = refl
 given-records d (Command code) = refl
+given-records d Clear = refl
 
 pub declined-ran : (d : Desk) (xs : List Record) → run d xs .declined ≡ d .declined + refusals d xs
 unfolding run refusals

@@ -9,8 +9,8 @@ use lib.ListN.{length, getD}
 use Rattle.numbers.specs.Promises.{AllBytes}
 use Rattle.ledger.specs.Account.{Balanced, commands, sums}
 use Rattle.dispenser_frame_rules.specs.declared.answer.Cassette.{Cassette}
-use Rattle.dispenser_rules.specs.Session.{sessionRequest, sessionByte, sessionTick}
-use Rattle.dispenser_rules.specs.Calls.{Call, request, byte, tick, history}
+use Rattle.dispenser_rules.specs.Session.{sessionRequest, sessionByte, sessionTick, sessionClear}
+use Rattle.dispenser_rules.specs.Calls.{Call, request, byte, tick, clear, history}
 use Rattle.dispenser_rules.specs.Errors.{lastOf, lastErrorIn}
 use Rattle.exchange_rules.specs.Machine.{plain}
 use Rattle.dispenser_rules.specs.Unit.{model2000T, cassette}
@@ -22,7 +22,7 @@ use Rattle.validator_rules.specs.History.{counted}
 use Rattle.recording.specs.Record.{InRange, AllInRange}
 use Rattle.recording.specs.Reading.{records, readRecording}
 use Rattle.recording.specs.declared.Record.{Record}
-use Rattle.recording.specs.declared.Record.the-variants.{Request, DispenserByte, Tick, ValidatorByte, Command}
+use Rattle.recording.specs.declared.Record.the-variants.{Request, DispenserByte, Tick, ValidatorByte, Command, Clear}
 use Rattle.grading_rules.specs.Replay.{Desk, freshDesk, payerDeclines, takerDeclines, given, replayOf}
 
 -- ---- the calls that records make
@@ -34,6 +34,7 @@ callOf d (DispenserByte b) = byte b (d .room) ∷ []
 callOf d (Tick ms) = tick ms (d .room) ∷ []
 callOf d (ValidatorByte b) = []
 callOf d (Command code) = []
+callOf d Clear = clear ∷ []
 
 unfoldable pub calls : Desk → List Record → List Call
 calls d [] = []
@@ -49,6 +50,7 @@ takerCall d (DispenserByte b) i = []
 takerCall d (Tick ms) i = takerWaits ms (d .room255) ∷ []
 takerCall d (ValidatorByte b) i = takerHears b (small b (i .1)) (d .room255) ∷ []
 takerCall d (Command code) i = takerAsks code [] (d .room255) ∷ []
+takerCall d Clear i = []
 
 unfoldable pub takerCalls : Desk → (xs : List Record) → AllInRange xs → List TakerCall
 takerCalls d [] i = []
@@ -62,6 +64,7 @@ refuses d (DispenserByte b) = payerDeclines (sessionByte (d .dispenser) b (d .ro
 refuses d (Tick ms) = payerDeclines (sessionTick (d .dispenser) ms (d .room) .reply) || takerDeclines (takerTick (d .validator) ms (d .room255) .reply)
 refuses d (ValidatorByte b) = takerDeclines (takerByte (d .validator) b (d .room255) .reply)
 refuses d (Command code) = takerDeclines (takerRequest (d .validator) code [] (d .room255) .reply)
+refuses d Clear = payerDeclines (sessionClear (d .dispenser) .reply)
 
 unfoldable pub refusals : Desk → List Record → ℕ
 refusals d [] = 0

@@ -7,7 +7,7 @@ use lib.ListN.{replicate}
 use Rattle.dispenser_rules.specs.Account.{freshAccount}
 use Rattle.dispenser_rules.specs.Errors.{noErrors, erredBy}
 use Rattle.dispenser_rules.specs.declared.errors.LastErrors.{LastErrors}
-use Rattle.dispenser_rules.specs.Session.{After, freshSession, sessionRequest, sessionByte, sessionTick}
+use Rattle.dispenser_rules.specs.Session.{After, freshSession, sessionRequest, sessionByte, sessionTick, sessionClear}
 use Rattle.dispenser_rules.specs.declared.session.Reply.{Reply}
 use Rattle.dispenser_rules.specs.declared.session.Reply.the-variants.{NotDone, Done}
 use Rattle.dispenser_rules.specs.declared.session.Session.{Session}
@@ -21,7 +21,7 @@ use Rattle.validator_rules.specs.declared.session.Session.{Session as Taker}
 use Rattle.recording.specs.Reading.{Reading, records, bad, readRecording}
 use Rattle.recording.specs.declared.Fault.{Fault}
 use Rattle.recording.specs.declared.Record.{Record}
-use Rattle.recording.specs.declared.Record.the-variants.{Request, DispenserByte, Tick, ValidatorByte, Command}
+use Rattle.recording.specs.declared.Record.the-variants.{Request, DispenserByte, Tick, ValidatorByte, Command, Clear}
 use Rattle.grading_rules.specs.declared.findings.Ending.the-variants.{Good, Bad}
 use Rattle.grading_rules.specs.declared.findings.Findings.{Findings}
 
@@ -66,6 +66,10 @@ counting refused d s v e room room255 =
 abbrev pub byDispenser : Desk → After → Desk
 byDispenser d w = counting (payerDeclines (w .reply)) d (w .session) (d .validator) (erredBy (d .errors) (w .reply)) (w .room) (d .room255)
 
+-- the operator's clear is lent no room, and closes nothing
+abbrev pub byOperator : Desk → After → Desk
+byOperator d w = counting (payerDeclines (w .reply)) d (w .session) (d .validator) (d .errors) (d .room) (d .room255)
+
 abbrev pub byValidator : Desk → TakerAfter → Desk
 byValidator d v = counting (takerDeclines (v .reply)) d (d .dispenser) (v .session) (d .errors) (d .room) (v .room)
 
@@ -73,13 +77,14 @@ abbrev pub byBoth : Desk → After → TakerAfter → Desk
 byBoth d w v =
     counting (payerDeclines (w .reply) || takerDeclines (v .reply)) d (w .session) (v .session) (erredBy (d .errors) (w .reply)) (w .room) (v .room)
 
--- a record, given to the session that it is for: "2 milliseconds (given to both sessions)"; a request to the validator has no data
+-- a record, given to the session that it is for: "2 milliseconds (given to both sessions)"; a request to the validator has no data; the dispenser's line alone is cleared
 abbrev pub given : Desk → Record → Desk
 given d (Request code upper lower) = byDispenser d (sessionRequest (d .dispenser) code upper lower (d .room))
 given d (DispenserByte b) = byDispenser d (sessionByte (d .dispenser) b (d .room))
 given d (Tick ms) = byBoth d (sessionTick (d .dispenser) ms (d .room)) (takerTick (d .validator) ms (d .room255))
 given d (ValidatorByte b) = byValidator d (takerByte (d .validator) b (d .room255))
 given d (Command code) = byValidator d (takerRequest (d .validator) code [] (d .room255))
+given d Clear = byOperator d (sessionClear (d .dispenser))
 
 -- records, one after the other
 unfoldable pub run : Desk → List Record → Desk

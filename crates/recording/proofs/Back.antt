@@ -13,7 +13,7 @@ use Rattle.recording.specs.Promises.{Faulty, kind, value, number, cut, R
 use Rattle.recording.specs.declared.Fault.{Fault}
 use Rattle.recording.specs.declared.Fault.the-variants.{Unknown}
 use Rattle.recording.specs.declared.Record.{Record}
-use Rattle.recording.specs.declared.Record.the-variants.{Request, DispenserByte, Tick, ValidatorByte, Command}
+use Rattle.recording.specs.declared.Record.the-variants.{Request, DispenserByte, Tick, ValidatorByte, Command, Clear}
 use Rattle.recording.specs.declared.Reader.{Reader}
 use Rattle.recording.specs.declared.Step.{Step}
 use Rattle.recording.proofs.Folds.{reading-cons}
@@ -52,7 +52,8 @@ made zero ns = Request (getD ns 0 0) (getD ns 1 0) (getD ns 2 0)
 made (suc zero) ns = DispenserByte (getD ns 0 0)
 made (suc (suc zero)) ns = Tick (getD ns 0 0)
 made (suc (suc (suc zero))) ns = ValidatorByte (getD ns 0 0)
-made (suc (suc (suc (suc k)))) ns = Command (getD ns 0 0)
+made (suc (suc (suc (suc zero)))) ns = Command (getD ns 0 0)
+made (suc (suc (suc (suc (suc k))))) ns = Clear
 
 made-again : (x : Record) → made (kindOf x) (numbersOf x) ≡ x
 unfolding made
@@ -61,6 +62,7 @@ made-again (DispenserByte b) = refl
 made-again (Tick ms) = refl
 made-again (ValidatorByte b) = refl
 made-again (Command c) = refl
+made-again Clear = refl
 
 same-record : (x y : Record) → kindOf x ≡ kindOf y → numbersOf x ≡ numbersOf y → x ≡ y
 same-record x y k n = sym (made-again x) ∙ ap₂ made k n ∙ made-again y
@@ -77,6 +79,7 @@ few (DispenserByte b) = omega arith
 few (Tick ms) = omega arith
 few (ValidatorByte b) = omega arith
 few (Command c) = omega arith
+few Clear = omega arith
 
 pub length-record : (x : Record) → length (recordBytes x) ≡ suc (length (laidNumbers (numbersOf x)))
 unfolding recordBytes

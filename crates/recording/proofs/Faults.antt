@@ -63,7 +63,8 @@ left-kind at (suc zero) = going _
 left-kind at (suc (suc zero)) = going _
 left-kind at (suc (suc (suc zero))) = going _
 left-kind at (suc (suc (suc (suc zero)))) = going _
-left-kind at (suc (suc (suc (suc (suc k))))) = faulty at Unknown
+left-kind at (suc (suc (suc (suc (suc zero))))) = complete _
+left-kind at (suc (suc (suc (suc (suc (suc k)))))) = faulty at Unknown
 
 left-in : (p : Place) (r : Reader) (at b : ℕ) → Left (byteIn p r at b)
 left-in Kind r at b = left-kind at b

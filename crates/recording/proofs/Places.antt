@@ -63,7 +63,8 @@ other-kind at (suc zero) h = absurd (h (omega arith))
 other-kind at (suc (suc zero)) h = absurd (h (omega arith))
 other-kind at (suc (suc (suc zero))) h = absurd (h (omega arith))
 other-kind at (suc (suc (suc (suc zero)))) h = absurd (h (omega arith))
-other-kind at (suc (suc (suc (suc (suc k))))) h = refl
+other-kind at (suc (suc (suc (suc (suc zero))))) h = absurd (h (omega arith))
+other-kind at (suc (suc (suc (suc (suc (suc k)))))) h = refl
 
 -- kinds 0 to 4 have numbers: one is read behind them
 pub with-number : (at k : ℕ) → k ≤ 4 → kindByte at k ≡ more (awaiting at (placeOf k))

@@ -19,7 +19,7 @@ use Rattle.recording.specs.Taking.{settled, foundFrom, foundAt}
 use Rattle.recording.specs.declared.Fault.{Fault}
 use Rattle.recording.specs.declared.Fault.the-variants.{BadNumber, Cut, Unknown}
 use Rattle.recording.specs.declared.Record.{Record}
-use Rattle.recording.specs.declared.Record.the-variants.{Request, DispenserByte, Tick, ValidatorByte, Command}
+use Rattle.recording.specs.declared.Record.the-variants.{Request, DispenserByte, Tick, ValidatorByte, Command, Clear}
 use Rattle.recording.specs.declared.Place.{Place}
 use Rattle.recording.specs.declared.Place.the-variants.{Kind, Code, Upper, Lower, FromDispenser, Milliseconds, FromValidator, ToValidator, Broken}
 use Rattle.recording.specs.declared.Reader.{Reader}
@@ -77,7 +77,8 @@ held-kind at (suc zero) = begun (awaiting at FromDispenser) (hit within 4 tt) re
 held-kind at (suc (suc zero)) = begun (awaiting at Milliseconds) (hit within 5 tt) refl
 held-kind at (suc (suc (suc zero))) = begun (awaiting at FromValidator) (hit within 6 tt) refl
 held-kind at (suc (suc (suc (suc zero)))) = begun (awaiting at ToValidator) (hit within 7 tt) refl
-held-kind at (suc (suc (suc (suc (suc k))))) = faulty Unknown
+held-kind at (suc (suc (suc (suc (suc zero))))) = complete Clear
+held-kind at (suc (suc (suc (suc (suc (suc k)))))) = faulty Unknown
 
 -- ---- g says what bytes from p on say, and n bytes of the record at a were read: what is found in s
 

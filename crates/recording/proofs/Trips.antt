@@ -15,7 +15,7 @@ use Rattle.recording.specs.Promises.{Faulty, value, number, cut}
 use Rattle.recording.specs.declared.Fault.{Fault}
 use Rattle.recording.specs.declared.Fault.the-variants.{BadNumber, Cut, Unknown}
 use Rattle.recording.specs.declared.Record.{Record}
-use Rattle.recording.specs.declared.Record.the-variants.{Request, DispenserByte, Tick, ValidatorByte, Command}
+use Rattle.recording.specs.declared.Record.the-variants.{Request, DispenserByte, Tick, ValidatorByte, Command, Clear}
 use Rattle.recording.specs.declared.Reader.{Reader}
 use Rattle.recording.specs.declared.Step.{Step}
 use Rattle.recording.specs.declared.Outcome.{Outcome}
@@ -53,6 +53,7 @@ how-many (DispenserByte b) = refl
 how-many (Tick ms) = refl
 how-many (ValidatorByte b) = refl
 how-many (Command c) = refl
+how-many Clear = refl
 
 -- ---- the kind byte: what it brings, before any number
 
@@ -63,7 +64,8 @@ kind-turn at (suc zero) h = next _ (from-dispenser 0 1 0 0) refl refl
 kind-turn at (suc (suc zero)) h = next _ (milliseconds 0 1 0 0) refl refl
 kind-turn at (suc (suc (suc zero))) h = next _ (from-validator 0 1 0 0) refl refl
 kind-turn at (suc (suc (suc (suc zero)))) h = next _ (to-validator 0 1 0 0) refl refl
-kind-turn at (suc (suc (suc (suc (suc k))))) h = absurd (omega arith)
+kind-turn at (suc (suc (suc (suc (suc zero))))) h = done Clear refl refl tt
+kind-turn at (suc (suc (suc (suc (suc (suc k)))))) h = absurd (omega arith)
 
 pub kind-other : (at k : ℕ) → (isKind k .holds → ⊥) → readByte freshReader at k ≡ refusedAt at Unknown
 unfolding readByte

@@ -11,7 +11,7 @@ use Rattle.recording.specs.Record.{mostBytes, inList}
 use Rattle.recording.specs.declared.Fault.{Fault}
 use Rattle.recording.specs.declared.Fault.the-variants.{BadNumber, Cut, Unknown, Long}
 use Rattle.recording.specs.declared.Record.{Record}
-use Rattle.recording.specs.declared.Record.the-variants.{Request, DispenserByte, Tick, ValidatorByte, Command}
+use Rattle.recording.specs.declared.Record.the-variants.{Request, DispenserByte, Tick, ValidatorByte, Command, Clear}
 use Rattle.recording.specs.declared.Place.{Place}
 use Rattle.recording.specs.declared.Place.the-variants.{Kind, Code, Upper, Lower, FromDispenser, Milliseconds, FromValidator, ToValidator, Broken}
 use Rattle.recording.specs.declared.Reader.{Reader}
@@ -57,15 +57,16 @@ refused r why = refusedAt (r .start) why
 
 -- ---- a kind byte
 
--- a row for each kind, with what its first number is: "0 code upper lower; 1 dispenser byte; 2 milliseconds; 3 validator byte; 4 code". A kind that has
--- none would be a whole record at once. "another kind is 23 at once"
+-- a row for each kind, with what its first number is: "0 code upper lower; 1 dispenser byte; 2 milliseconds; 3 validator byte; 4 code". Kind 5, clear, has none: it is
+-- a whole record at once. "another kind is 23 at once"
 unfoldable pub kindByte : ℕ → ℕ → Step
 kindByte at zero = more (awaiting at Code)
 kindByte at (suc zero) = more (awaiting at FromDispenser)
 kindByte at (suc (suc zero)) = more (awaiting at Milliseconds)
 kindByte at (suc (suc (suc zero))) = more (awaiting at FromValidator)
 kindByte at (suc (suc (suc (suc zero)))) = more (awaiting at ToValidator)
-kindByte at (suc (suc (suc (suc (suc k))))) = refusedAt at Unknown
+kindByte at (suc (suc (suc (suc (suc zero))))) = whole Clear
+kindByte at (suc (suc (suc (suc (suc (suc k)))))) = refusedAt at Unknown
 
 -- ---- a number
 

@@ -9,7 +9,7 @@ use Rattle.dispenser_frame_rules.specs.Table.{known}
 use Rattle.recording.specs.declared.Fault.{Fault}
 use Rattle.recording.specs.declared.Fault.the-variants.{BadNumber, Cut, Unknown, Long}
 use Rattle.recording.specs.declared.Record.{Record}
-use Rattle.recording.specs.declared.Record.the-variants.{Request, DispenserByte, Tick, ValidatorByte, Command}
+use Rattle.recording.specs.declared.Record.the-variants.{Request, DispenserByte, Tick, ValidatorByte, Command, Clear}
 
 -- 01's number for each fault: "bad number; cut short; unknown kind or value; over 65,536 bytes"
 abbrev pub faultNumber : Fault → ℕ
@@ -26,13 +26,14 @@ mostBytes = 65_536
 unfoldable pub inList : ℕ → Condition
 inList code = among code (0x30 ∷ 0x33 ∷ 0x35 ∷ 0x36 ∷ 0x38 ∷ [])
 
--- "0 code upper lower; 1 dispenser byte; 2 milliseconds; 3 validator byte; 4 code"
+-- "0 code upper lower; 1 dispenser byte; 2 milliseconds; 3 validator byte; 4 code"; kind 5 for clear, "with no further number" (02, Q-9)
 abbrev pub kindOf : Record → ℕ
 kindOf (Request code upper lower) = 0
 kindOf (DispenserByte b) = 1
 kindOf (Tick ms) = 2
 kindOf (ValidatorByte b) = 3
 kindOf (Command code) = 4
+kindOf Clear = 5
 
 abbrev pub numbersOf : Record → List ℕ
 numbersOf (Request code upper lower) = code ∷ upper ∷ lower ∷ []
@@ -40,10 +41,11 @@ numbersOf (DispenserByte b) = b ∷ []
 numbersOf (Tick ms) = ms ∷ []
 numbersOf (ValidatorByte b) = b ∷ []
 numbersOf (Command code) = code ∷ []
+numbersOf Clear = []
 
 -- the kinds that there are
 abbrev pub isKind : ℕ → Condition
-isKind k = atMost k 4
+isKind k = atMost k 5
 
 -- how many numbers a record of a kind has
 abbrev pub howMany : ℕ → ℕ
@@ -52,7 +54,8 @@ howMany (suc zero) = 1
 howMany (suc (suc zero)) = 1
 howMany (suc (suc (suc zero))) = 1
 howMany (suc (suc (suc (suc zero)))) = 1
-howMany (suc (suc (suc (suc (suc k))))) = 0
+howMany (suc (suc (suc (suc (suc zero))))) = 0
+howMany (suc (suc (suc (suc (suc (suc k)))))) = 0
 
 -- the values that a kind takes: "A code outside its kind's list or a byte above 255 is 23"; milliseconds and counts may be any
 abbrev pub takes : ℕ → List ℕ → Condition
@@ -61,7 +64,8 @@ takes (suc zero) ns = atMost (getD ns 0 0) 255
 takes (suc (suc zero)) ns = always
 takes (suc (suc (suc zero))) ns = atMost (getD ns 0 0) 255
 takes (suc (suc (suc (suc zero)))) ns = inList (getD ns 0 0)
-takes (suc (suc (suc (suc (suc k))))) ns = never
+takes (suc (suc (suc (suc (suc zero))))) ns = always
+takes (suc (suc (suc (suc (suc (suc k)))))) ns = never
 
 -- every number is below 4,294,967,296
 abbrev pub AllBelow : List ℕ → Type 0

@@ -51,6 +51,8 @@ pub enum Record {
     ValidatorByte(u8),
     // Kind 4, a request to the validator.
     Command(u8),
+    // Kind 5, the operator clears the dispenser's line. It has no number.
+    Clear,
 }
 
 // What the next byte belongs to: a record's kind, or one of its numbers.
@@ -229,6 +231,9 @@ impl Reader {
         }
         if b == 4 {
             return more(Reader::awaiting(at, Place::ToValidator));
+        }
+        if b == 5 {
+            return whole(Record::Clear);
         }
         Reader::refused(Fault::Unknown, at)
     }

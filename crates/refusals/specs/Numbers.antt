@@ -4,7 +4,7 @@ use Prim.Native.Nat.{ℕ}
 use Rattle.refusals.specs.declared.Refusal.{Refusal}
 use Rattle.refusals.specs.declared.Refusal.the-variants.{Room, Range}
 use Rattle.refusals.specs.declared.Declined.{Declined}
-use Rattle.refusals.specs.declared.Declined.the-variants.{Room as NoRoom, Range as NotSendable, Open, Unquiet, Spent, Tick}
+use Rattle.refusals.specs.declared.Declined.the-variants.{Room as NoRoom, Range as NotSendable, Open, Unquiet, Spent, Tick, Stopped}
 
 -- "room lent for sending is under 16 bytes (dispenser session), 255 (validator session), or the frame's, record's or report's own length (plain writer)"
 abbrev pub noRoom : ℕ
@@ -29,6 +29,10 @@ allSpent = 5
 -- "a tick is not 1 to 1,000 ms"
 abbrev pub badTick : ℕ
 badTick = 6
+
+-- "Two paying requests in succession which closed unknown .. From then on paying requests get the new number 7 .. until the operator's clear call is made" (02, Q-9)
+abbrev pub lineStopped : ℕ
+lineStopped = 7
 
 -- "frame length is wrong"
 abbrev pub badLength : ℕ
@@ -83,3 +87,4 @@ declinedNumber Open = commandOpen
 declinedNumber Unquiet = notQuiet
 declinedNumber Spent = allSpent
 declinedNumber Tick = badTick
+declinedNumber Stopped = lineStopped

@@ -20,6 +20,9 @@ pub const SPENT: u8 = 5;
 // A tick is not 1 to 1,000 ms.
 pub const TICK: u8 = 6;
 
+// Two paying commands in succession closed unknown, and the operator has not cleared the line since (document 02, Q-9).
+pub const STOPPED: u8 = 7;
+
 // Frame length is wrong.
 pub const LENGTH: u8 = 11;
 
@@ -90,6 +93,8 @@ pub enum Declined {
     Spent,
     // A tick is not 1 to 1,000 ms.
     Tick,
+    // Two paying commands in succession closed unknown, and the line has not been cleared.
+    Stopped,
 }
 
 impl Declined {
@@ -104,6 +109,7 @@ impl Declined {
             Declined::Unquiet => UNQUIET,
             Declined::Spent => SPENT,
             Declined::Tick => TICK,
+            Declined::Stopped => STOPPED,
         }
     }
 }

@@ -34,7 +34,7 @@ use Rattle.recording.specs.Reading.{Reading, records, bad, readRecording}
 use Rattle.recording.specs.declared.Fault.{Fault}
 use Rattle.recording.specs.declared.Fault.the-variants.{BadNumber, Cut, Unknown, Long}
 use Rattle.recording.specs.declared.Record.{Record}
-use Rattle.recording.specs.declared.Record.the-variants.{Request, DispenserByte, Tick, ValidatorByte, Command}
+use Rattle.recording.specs.declared.Record.the-variants.{Request, DispenserByte, Tick, ValidatorByte, Command, Clear}
 use Rattle.recording.proofs.Exact.{exactly-when}
 use Rattle.recording.proofs.Back.{length-record}
 use Rattle.recording.proofs.Folds.{reading-long}
@@ -167,6 +167,7 @@ given-bills d (DispenserByte b) = refl
 given-bills d (Tick ms) = booked-length (d .validator .bills) _
 given-bills d (ValidatorByte b) = booked-length (d .validator .bills) _
 given-bills d (Command code) = refl
+given-bills d Clear = refl
 
 bills-ran : (d : Desk) (xs : List Record) → length (run d xs .validator .bills) ≡ length (d .validator .bills)
 unfolding run

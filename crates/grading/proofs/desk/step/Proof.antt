@@ -33,6 +33,12 @@ enum-known-x-5 c = search needs
 commanded-requires : tie.Need-commanded-requires
 commanded-requires c κs = search needs
 
+enum-told : tie.Need-enum-told
+enum-told c = search needs
+
+cleared-requires : tie.Need-cleared-requires
+cleared-requires c κs = search needs
+
 returns : tie.Need-returns
 returns c = λ a bs. let args = c .before .before .before .before .before .args in rw (c .before .before .before .x .given .1) (c .requested .ensures a bs (args .store .now) (args .store255 .now) (args .room255 .now))
 
@@ -48,6 +54,9 @@ returns-4 c = λ a bs. let args = c .before .before .before .before .before .bef
 returns-5 : tie.Need-returns-5
 returns-5 c = λ a bs. let args = c .before .before .before .before .before .args in rw (c .before .before .before .x5 .given .1) (c .commanded .ensures a bs (args .store .now) (args .store255 .now) (args .room .now))
 
+returns-6 : tie.Need-returns-6
+returns-6 c = λ a bs. let args = c .before .before .before .args in rw (c .before .enum-told .given .1) (c .cleared .ensures a bs (args .store .now) (args .store255 .now) (args .room .now) (args .room255 .now))
+
 pub step-spec : {M : Type 1} → statement M
 step-spec =
     tie.close
@@ -62,8 +71,11 @@ step-spec =
     validator-byte-requires
     enum-known-x-5
     commanded-requires
+    enum-told
+    cleared-requires
     returns
     returns-2
     returns-3
     returns-4
-    returns-5)
+    returns-5
+    returns-6)

@@ -58,12 +58,19 @@ returns-5 : tie.Need-returns-5
 unfolding kindByte
 returns-5 c = simp (c .more5 .ensures, c .before .awaiting5 .ensures, c .before .before .if5 .taken)
 
+whole-requires : tie.Need-whole-requires
+whole-requires c κs = search needs
+
+returns-6 : tie.Need-returns-6
+unfolding kindByte
+returns-6 c = simp (c .whole .ensures, c .before .if6 .taken)
+
 refused-requires : tie.Need-refused-requires
 refused-requires c κs = search needs
 
-returns-6 : tie.Need-returns-6
-returns-6 c =
-    let other : 4 < c .before .before .before .before .before .before .args .b = omega (arith, c .before .if5 .left, c .before .before .if4 .left, c .before .before .before .if3 .left, c .before .before .before .before .if2 .left, c .before .before .before .before .before .if1 .left) in
+returns-7 : tie.Need-returns-7
+returns-7 c =
+    let other : 5 < c .before .before .before .before .before .before .before .args .b = omega (arith, c .before .if6 .left, c .before .before .if5 .left, c .before .before .before .if4 .left, c .before .before .before .before .if3 .left, c .before .before .before .before .before .if2 .left, c .before .before .before .before .before .before .if1 .left) in
     c .refused .ensures ∙ sym (other-kind _ _ (λ z. omega arith))
 
 pub kind-spec : {M : Type 1} → statement M
@@ -85,5 +92,7 @@ kind-spec =
     awaiting-requires-5
     more-requires-5
     returns-5
+    whole-requires
+    returns-6
     refused-requires
-    returns-6)
+    returns-7)
