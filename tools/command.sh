@@ -129,7 +129,7 @@ ready() { # PROGRAM
 # In a subshell, with which the lock goes. It checks each step itself: set -e does not hold in it.
 build() { # PROGRAM
     if [ ! -w "$top" ] || { [ -e "$built" ] && [ ! -w "$built" ]; }; then
-        stop "the program is not built of the sources as they stand, and you may not write here: whoever owns $top runs ./$1 --build"
+        stop "the program is not built of the sources as they stand, and you may not write here: whoever owns $top runs ./$name --build"
     fi
     hold
     # a call that this one waited for may have built it

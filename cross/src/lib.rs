@@ -22,6 +22,11 @@ pub mod ccnet_frame;
 pub mod ccnet_wide;
 pub mod validator;
 
+// Q-10 of document 02
+pub mod payout;
+pub mod payout_search;
+pub mod payout_sheet;
+
 // Recordings to try: written as text, simulated, made from a seed.
 pub mod bench;
 pub mod generate;
@@ -33,6 +38,7 @@ pub mod loads;
 pub mod misread;
 pub mod other;
 pub mod reach;
+pub mod sheet;
 pub mod shrink;
 pub mod watch;
 pub mod wide_sheet;

@@ -3,6 +3,7 @@
 use crate::ccnet_frame::{body, check};
 use crate::ccnet_wide::{read, write, Form, Unread, Unwritten};
 use crate::random::Random;
+use crate::sheet::Sheet;
 use std::collections::BTreeMap;
 use std::fmt;
 
@@ -215,14 +216,6 @@ impl Reached {
         }
     }
 
-    /// The table, and what was reached too seldom.
-    pub fn table(&self) -> (String, Vec<&'static str>) {
-        let count = |place: &str| self.0.get(place).copied().unwrap_or(0);
-        let table = PLACES.iter().map(|place| format!("{:>8}  {place}\n", count(place))).collect();
-        let few = PLACES.into_iter().filter(|place| count(place) * 100 < count("lines")).collect();
-        (table, few)
-    }
-
     /// A line that was made from a seed.
     fn line(&mut self, line: &Line) {
         self.add("lines".to_string());
@@ -234,8 +227,21 @@ impl Reached {
     }
 }
 
+impl Sheet for Reached {
+    fn made(&mut self, seed: u64, index: u64) -> (String, String) {
+        made(seed, index, self)
+    }
+
+    fn table(&self) -> (String, Vec<&'static str>) {
+        let count = |place: &str| self.0.get(place).copied().unwrap_or(0);
+        let table = PLACES.iter().map(|place| format!("{:>8}  {place}\n", count(place))).collect();
+        let few = PLACES.into_iter().filter(|place| count(place) * 100 < count("lines")).collect();
+        (table, few)
+    }
+}
+
 /// The line of that place in a run, and what must be written for it.
-pub fn made(seed: u64, index: u64, reached: &mut Reached) -> (String, String) {
+fn made(seed: u64, index: u64, reached: &mut Reached) -> (String, String) {
     let mut random = Random::new(seed.wrapping_mul(0x2545_F491_4F6C_DD1D) ^ index);
     let line = if random.once_in(2) { to_write(&mut random) } else { to_read(&mut random) };
     reached.line(&line);

@@ -34,6 +34,10 @@ badTick = 6
 abbrev pub lineStopped : ℕ
 lineStopped = 7
 
+-- "no such payout" (02, Q-10)
+abbrev pub noPayout : ℕ
+noPayout = 8
+
 -- "frame length is wrong"
 abbrev pub badLength : ℕ
 badLength = 11

@@ -23,6 +23,9 @@ pub const TICK: u8 = 6;
 // Two paying commands in succession closed unknown, and the operator has not cleared the line since (document 02, Q-9).
 pub const STOPPED: u8 = 7;
 
+// No such payout (document 02, Q-10).
+pub const PAYOUT: u8 = 8;
+
 // Frame length is wrong.
 pub const LENGTH: u8 = 11;
 

@@ -1,0 +1,13 @@
+-- `payout::least` meets its contract. Assumes nothing.
+use Rattle.refusals.proofs.Rules.{tests}
+use Rattle.payout.proofs.least.Statement.{statement}
+use Rattle.payout.proofs.least.Tie as tie
+
+returns : tie.Need-returns
+returns c = search tests
+
+returns-2 : tie.Need-returns-2
+returns-2 c = search tests
+
+pub least-spec : {M : Type 1} → statement M
+least-spec = tie.close (tie.spec returns returns-2)

@@ -1,0 +1,3 @@
+-- The laws of `payout_command`.
+pub mod Sent
+pub mod Tied

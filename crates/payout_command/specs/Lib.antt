@@ -1,0 +1,3 @@
+-- What the contracts of `payout_command` cite.
+pub mod Command
+pub mod Promises

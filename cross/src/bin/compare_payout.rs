@@ -1,0 +1,9 @@
+//! `compare_payout [--count N] [--seed N] [--batch N] -- COMMAND..`: gives lines made from the seed to `COMMAND..` on standard input, and
+//! says where what it writes is not what must be written, or what was reached.
+
+use cross::{payout_sheet, sheet};
+use std::process::ExitCode;
+
+fn main() -> ExitCode {
+    sheet::main::<payout_sheet::Reached>("compare_payout")
+}

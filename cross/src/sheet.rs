@@ -1,0 +1,106 @@
+//! The comparison with a bench program: lines made from a seed are given to it on standard input, and what it writes is held
+//! against what must be written.
+
+use std::ffi::OsString;
+use std::io::{self, Write};
+use std::process::{Command, ExitCode, Stdio};
+
+/// The lines of one bench program, and what was reached by those that were made.
+pub trait Sheet: Default {
+    /// The line at that place of the run, and what must be written for it.
+    fn made(&mut self, seed: u64, index: u64) -> (String, String);
+
+    /// The table of what was reached, and what was reached too seldom.
+    fn table(&self) -> (String, Vec<&'static str>);
+}
+
+struct Asked {
+    count: u64,
+    seed: u64,
+    batch: u64,
+    command: Vec<OsString>,
+}
+
+fn asked() -> Option<Asked> {
+    let mut asked = Asked { count: 12_000, seed: 1, batch: 500, command: Vec::new() };
+    let mut words = std::env::args_os().skip(1);
+    loop {
+        let word = words.next()?;
+        let option = word.to_str()?;
+        if option == "--" {
+            asked.command = words.collect();
+            return (!asked.command.is_empty() && asked.batch > 0).then_some(asked);
+        }
+        let number = words.next()?.to_str()?.parse().ok()?;
+        match option {
+            "--count" => asked.count = number,
+            "--seed" => asked.seed = number,
+            "--batch" => asked.batch = number,
+            _ => return None,
+        }
+    }
+}
+
+/// The program `NAME [--count N] [--seed N] [--batch N] -- COMMAND..`.
+pub fn main<S: Sheet>(name: &str) -> ExitCode {
+    let Some(asked) = asked() else {
+        eprintln!("usage: {name} [--count N] [--seed N] [--batch N] -- COMMAND..");
+        return ExitCode::from(2);
+    };
+    match compare::<S>(&asked) {
+        Ok(true) => ExitCode::SUCCESS,
+        Ok(false) => ExitCode::FAILURE,
+        Err(why) => {
+            eprintln!("{name}: {why}");
+            ExitCode::from(2)
+        }
+    }
+}
+
+/// Whether both sides agree on every line and nothing was missed.
+fn compare<S: Sheet>(asked: &Asked) -> io::Result<bool> {
+    let mut sheet = S::default();
+    for from in (0..asked.count).step_by(asked.batch as usize) {
+        let upto = (from + asked.batch).min(asked.count);
+        let made: Vec<(String, String)> = (from..upto).map(|index| sheet.made(asked.seed, index)).collect();
+        let wrote = run(&asked.command, made.iter().map(|(line, _)| line.as_str()).collect())?;
+        let mut rest = wrote.as_str();
+        for (index, (line, wanted)) in (from..).zip(&made) {
+            let Some(more) = rest.strip_prefix(wanted.as_str()) else {
+                println!(
+                    "the first difference is at line {index} of seed {}:\n{line}wanted:\n{wanted}wrote:",
+                    asked.seed
+                );
+                rest.lines().take(wanted.lines().count()).for_each(|line| println!("{line}"));
+                return Ok(false);
+            };
+            rest = more;
+        }
+        if !rest.is_empty() {
+            println!("behind line {} of seed {} it wrote more:\n{rest}", upto - 1, asked.seed);
+            return Ok(false);
+        }
+    }
+    println!("{} lines, seed {}: no difference", asked.count, asked.seed);
+    let (table, few) = sheet.table();
+    print!("{table}");
+    for place in &few {
+        println!("too few reached '{place}'");
+    }
+    Ok(few.is_empty())
+}
+
+/// What the program writes for the lines.
+fn run(command: &[OsString], lines: String) -> io::Result<String> {
+    let mut child =
+        Command::new(&command[0]).args(&command[1..]).stdin(Stdio::piped()).stdout(Stdio::piped()).spawn()?;
+    let mut input = child.stdin.take().expect("it is piped");
+    let given = std::thread::spawn(move || input.write_all(lines.as_bytes()));
+    let output = child.wait_with_output()?;
+    given.join().expect("a thread that ends")?;
+    let mut wrote = String::from_utf8_lossy(&output.stdout).into_owned();
+    if !output.status.success() {
+        wrote += &format!("(ended with {})\n", output.status);
+    }
+    Ok(wrote)
+}
