@@ -131,8 +131,18 @@ const PUBLISHED: [Entry; 27] = [
     },
 ];
 
-// The class of an error byte.
+// The class of an error byte. The first code of the list, 30h, is what nearly every answer has: it is tried before the list is gone through.
 pub fn class_of(error: u8) -> ErrorClass
+    ensures { λ r. ⌜ r ≡ errorClass error ⌝ }
+{
+    let first = PUBLISHED[0];
+    if first.code == error {
+        return first.class;
+    }
+    searched(error)
+}
+
+fn searched(error: u8) -> ErrorClass
     ensures { λ r. ⌜ r ≡ errorClass error ⌝ }
 {
     let mut i: usize = 0;

@@ -10,6 +10,8 @@ ghost use Rattle.recording.specs.declared.Record.the-variants.{Request, Dispens
 ghost use Rattle.grading_rules.specs.Replay.{payerDeclines, takerDeclines, given, badFindings, replayOf};
 ghost use Rattle.grading.specs.Scaffolding.{runOf, entered, joined};
 ghost use Rattle.grading.specs.declared.desk.Books.{Books};
+ghost use Rattle.grading.specs.declared.desk.Entry.the-variants.{Heard};
+ghost use Rattle.dispenser_rules.specs.declared.session.Asked.{Asked};
 use dispenser_rules::Account;
 use dispenser_rules::Asked;
 use dispenser_rules::LastErrors;
@@ -137,6 +139,19 @@ fn counted(n: u64, declined: bool) -> u64
     n
 }
 
+// What the dispenser session made of a byte or a tick: something to book where it closed a command, and else nothing. The books are passed over where there is nothing.
+fn heard(reply: dispenser_rules::Reply) -> Entry
+    ensures { λ r. ⌜ ((b : Books) (c : Asked) → entered b c r ≡ entered b c (Heard reply)) ⌝ }
+{
+    match reply {
+        dispenser_rules::Reply::NotDone(_) => Entry::Nothing,
+        dispenser_rules::Reply::Done { put: _, closing } => match closing {
+            dispenser_rules::Closing::Nothing => Entry::Nothing,
+            _ => Entry::Heard(reply),
+        },
+    }
+}
+
 // A request to the dispenser.
 fn requested(run: Run, code: u8, upper: u32, lower: u32, room: &mut [u8; 16]) -> Moved
     requires { ⌜ run .declined < 4_294_967_296 ⌝ }
@@ -173,9 +188,10 @@ fn dispenser_byte(run: Run, store: &mut [u8; 21], b: u8, room: &mut [u8; 16]) ->
     let reply = step.reply;
     let declined = counted(run.declined, payer_declines(reply));
     let records = run.records + 1;
+    let entry = heard(reply);
     Moved {
         run: assembled(next, asked, taker, declined, records),
-        entry: Entry::Heard(reply),
+        entry,
         bill: validator_rules::Session::TYPES,
     }
 }
@@ -205,9 +221,10 @@ fn ticked(
     let refused = either(payer_declines(reply), taker_declines(said));
     let declined = counted(run.declined, refused);
     let records = run.records + 1;
+    let entry = heard(reply);
     Moved {
         run: assembled(next, asked, following, declined, records),
-        entry: Entry::Heard(reply),
+        entry,
         bill,
     }
 }

@@ -17,13 +17,19 @@ counted-requires c κs = search needs
 add-records : tie.Need-add-records
 add-records c = search needs
 
+heard-requires : tie.Need-heard-requires
+heard-requires c κs = search needs
+
 assembled-requires : tie.Need-assembled-requires
 assembled-requires c κs = search needs
 
 returns : tie.Need-returns
 unfolding sessionByte bookedBy
-returns c = λ a bs store255 room255. simp (c .assembled .ensures, ← c .before .before .before .before .before .step-byte .ensures, c .before .before .counted .ensures, c .before .before .before .payer-declines .ensures)
+returns c =
+    λ a bs store255 room255.
+    let args = c .before .before .before .before .before .before .before .before .before .before .before .before .args in
+    simp (c .assembled .ensures, c .before .heard .ensures a (args .run .asked), ← c .before .before .before .before .before .before .step-byte .ensures, c .before .before .before .counted .ensures, c .before .before .before .before .payer-declines .ensures)
 
 pub dispenser-byte-spec : {M : Type 1} → statement M
 dispenser-byte-spec =
-    tie.close (tie.spec step-byte-requires payer-declines-requires counted-requires add-records assembled-requires returns)
+    tie.close (tie.spec step-byte-requires payer-declines-requires counted-requires add-records heard-requires assembled-requires returns)

@@ -29,6 +29,9 @@ counted-requires c κs = search needs
 add-records : tie.Need-add-records
 add-records c = record { fits = omega (arith, c .before .before .before .before .before .before .before .before .before .before .before .before .before .before .before .pre .1) }
 
+heard-requires : tie.Need-heard-requires
+heard-requires c κs = search needs
+
 assembled-requires : tie.Need-assembled-requires
 assembled-requires c κs = search needs
 
@@ -36,9 +39,9 @@ returns : tie.Need-returns
 unfolding sessionTick takerTick
 returns c =
     λ a bs store.
-    let args = c .before .before .before .before .before .before .before .before .before .before .before .before .before .before .before .before .args in
-    simp (c .assembled .ensures, c .before .before .counted .ensures, c .before .before .before .either .ensures, c .before .before .before .before .taker-declines .ensures, c .before .before .before .before .before .payer-declines .ensures)
-    (by-tick (joined (args .run) a bs store (args .store255 .now) (args .room .now) (args .room255 .now)) (c .before .before .before .before .before .before .before .before .before .before .before .step-tick .ensures) (c .before .before .before .before .before .before .before .step-tick2 .ensures))
+    let args = c .before .before .before .before .before .before .before .before .before .before .before .before .before .before .before .before .before .args in
+    simp (c .assembled .ensures, c .before .heard .ensures a (args .run .asked), c .before .before .before .counted .ensures, c .before .before .before .before .either .ensures, c .before .before .before .before .before .taker-declines .ensures, c .before .before .before .before .before .before .payer-declines .ensures)
+    (by-tick (joined (args .run) a bs store (args .store255 .now) (args .room .now) (args .room255 .now)) (c .before .before .before .before .before .before .before .before .before .before .before .before .step-tick .ensures) (c .before .before .before .before .before .before .before .before .step-tick2 .ensures))
 
 pub ticked-spec : {M : Type 1} → statement M
 ticked-spec =
@@ -51,5 +54,6 @@ ticked-spec =
     either-requires
     counted-requires
     add-records
+    heard-requires
     assembled-requires
     returns)
