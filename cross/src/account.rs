@@ -1,6 +1,7 @@
 //! "The account": what became of the notes that were asked for, cassette by cassette.
 
 use crate::dispenser_frame::{Answer, Command, Payment};
+use crate::kept::{Fate, Kept};
 
 /// The sums of one cassette.
 #[derive(Clone, Copy, Debug, Default, PartialEq, Eq)]
@@ -49,10 +50,12 @@ impl Sums {
     }
 }
 
-#[derive(Clone, Copy, Debug, Default, PartialEq, Eq)]
+#[derive(Clone, Debug, Default, PartialEq, Eq)]
 pub struct Account {
     pub upper: Sums,
     pub lower: Sums,
+    /// "The account record shall keep the last 32 paying requests" (Q-6 of document 02). The sums cover all.
+    pub kept: Kept,
 }
 
 impl Account {
@@ -60,16 +63,28 @@ impl Account {
     pub fn opened(&mut self, command: Command) {
         self.upper.opened(command.upper);
         self.lower.opened(command.lower);
+        self.kept.opened(command);
+    }
+
+    pub fn handed_over(&mut self) {
+        self.kept.handed_over();
     }
 
     /// "Rejects add from every good paying or test answer."
     pub fn answered(&mut self, answer: Answer) {
         match answer {
-            Answer::PaidUpper(payment) => self.upper.paid(payment),
-            Answer::PaidLower(payment) => self.lower.paid(payment),
+            Answer::PaidUpper(upper) => {
+                self.upper.paid(upper);
+                self.kept.closed(Fate::Answered { upper: upper.exit, lower: 0 });
+            }
+            Answer::PaidLower(lower) => {
+                self.lower.paid(lower);
+                self.kept.closed(Fate::Answered { upper: 0, lower: lower.exit });
+            }
             Answer::PaidBoth(upper, lower) => {
                 self.upper.paid(upper);
                 self.lower.paid(lower);
+                self.kept.closed(Fate::Answered { upper: upper.exit, lower: lower.exit });
             }
             Answer::TestedUpper { rejects } => self.upper.rejected += rejects,
             Answer::TestedLower { rejects } => self.lower.rejected += rejects,
@@ -80,11 +95,13 @@ impl Account {
     pub fn refused(&mut self) {
         self.upper.refused();
         self.lower.refused();
+        self.kept.closed(Fate::Refused);
     }
 
     /// "when closed unknown, unknown q"
     pub fn lost(&mut self) {
         self.upper.lost();
         self.lower.lost();
+        self.kept.closed(Fate::Unknown);
     }
 }

@@ -6,7 +6,7 @@ use crate::dispenser::{Closing, Session, NAK};
 use crate::dispenser_frame::{answer, check, read_answer, status, Code, Command, Counted, Fault, OPENING};
 use crate::error_class::{BESIDE, LISTED};
 use crate::random::Random;
-use crate::recording::{self, Record};
+use crate::recording::Record;
 use crate::replay::{Bench, Played, Rooms};
 use crate::validator;
 use std::collections::VecDeque;
@@ -237,20 +237,7 @@ impl Simulation {
 
     /// Records what happens, lets the host have it, and lets the devices hear what the host sends.
     fn record(&mut self, record: Record) {
-        match record {
-            Record::Request(c) => {
-                recording::write(recording::REQUEST, &[u32::from(c.code.byte()), c.upper, c.lower], &mut self.recorded)
-            }
-            Record::DispenserByte(b) => {
-                recording::write(recording::DISPENSER_BYTE, &[u32::from(b)], &mut self.recorded)
-            }
-            Record::Tick(ms) => recording::write(recording::TICK, &[ms], &mut self.recorded),
-            Record::ValidatorByte(b) => {
-                recording::write(recording::VALIDATOR_BYTE, &[u32::from(b)], &mut self.recorded)
-            }
-            Record::Ask(c) => recording::write(recording::ASK, &[u32::from(c.byte())], &mut self.recorded),
-            Record::Clear => recording::write(recording::CLEAR, &[], &mut self.recorded),
-        }
+        record.write(&mut self.recorded);
         self.cleared = record == Record::Clear;
         let played = self.host.play(record, &mut self.rooms);
         if matches!(played, Played::Declined(_)) {
@@ -508,7 +495,7 @@ impl Simulation {
             let bytes = [0x01, 0x03, 0x04, 0x06, 0x15, self.random.byte()];
             return status(error, [0x80 | self.random.pick(&bytes), self.random.pick(&bytes)]);
         }
-        let (upper, lower) = (self.counted(upper), self.counted(lower));
+        let (upper, lower) = (counted(&mut self.random, upper), counted(&mut self.random, lower));
         answer(code, upper, lower, error)
     }
 
@@ -533,23 +520,6 @@ impl Simulation {
         let error = self.random.pick(&[0x2F, 0x30, 0x39, 0x7F, 0x80]);
         let code = if self.random.once_in(2) { self.command.code } else { self.random.pick(&Code::ALL) };
         answer(code, counted, counted, error)
-    }
-
-    fn counted(&mut self, asked: u32) -> Counted {
-        let asked = asked.min(60) as u8;
-        let exit = match self.random.below(8) {
-            0 => self.random.below(u32::from(asked) + 1) as u8,
-            1 => (asked + self.random.within(1, 9) as u8).min(69),
-            _ => asked,
-        };
-        let rejects = if self.random.once_in(3) { self.random.below(100) as u8 } else { 0 };
-        let more = if self.random.once_in(3) { 2 } else { 0 };
-        Counted {
-            chk: if asked == 0 { self.random.below(30) as u8 } else { (exit + more).min(69) },
-            exit,
-            state: self.random.pick(&[0x30, 0x31]),
-            rejects,
-        }
     }
 
     // The validator
@@ -648,5 +618,23 @@ fn loose_code(random: &mut Random, unknowns: u32) -> Code {
         random.pick(&[Code::Purge, Code::Status, Code::TestUpper, Code::TestLower])
     } else {
         random.pick(&[Code::PayUpper, Code::PayLower, Code::PayBoth])
+    }
+}
+
+/// What a dispenser says that was asked for so many notes: mostly all of them, sometimes fewer or more.
+pub fn counted(random: &mut Random, asked: u32) -> Counted {
+    let asked = asked.min(60) as u8;
+    let exit = match random.below(8) {
+        0 => random.below(u32::from(asked) + 1) as u8,
+        1 => (asked + random.within(1, 9) as u8).min(69),
+        _ => asked,
+    };
+    let rejects = if random.once_in(3) { random.below(100) as u8 } else { 0 };
+    let more = if random.once_in(3) { 2 } else { 0 };
+    Counted {
+        chk: if asked == 0 { random.below(30) as u8 } else { (exit + more).min(69) },
+        exit,
+        state: random.pick(&[0x30, 0x31]),
+        rejects,
     }
 }

@@ -262,6 +262,7 @@ impl Session {
 
     fn hand_over(&mut self, room: &mut [u8]) -> Step {
         self.hand_overs += 1;
+        self.account.handed_over();
         self.wait(Phase::First, Session::FIRST_BYTE);
         Step { put: self.command.write_to(room), closing: None }
     }
@@ -633,7 +634,7 @@ mod tests {
             host.byte(ACK);
             let paid = Closing::Answered(Answer::PaidUpper(Payment { exit: 9, rejects: 2 }), ErrorClass::of(error));
             assert_eq!(host.hear(&answer(Code::PayUpper, counted, counted, error)), (vec![ACK], Some(paid)));
-            sums.push(*host.session.account());
+            sums.push(host.session.account().clone());
         }
         assert!(sums.iter().all(|account| *account == sums[0]));
     }
@@ -695,7 +696,7 @@ mod tests {
         for one in [Code::PayUpper, Code::PayLower, Code::PayBoth] {
             for other in [Code::PayUpper, Code::PayLower, Code::PayBoth] {
                 let mut host = after(&[(paying(one), UNKNOWN), (paying(other), UNKNOWN)]);
-                let before = host.session.account;
+                let before = host.session.account.clone();
                 host.pass(95_200);
                 for code in [Code::PayUpper, Code::PayLower, Code::PayBoth] {
                     assert_eq!(host.request(paying(code)), Err(Declined::Stopped));
@@ -818,10 +819,10 @@ mod tests {
         for unknowns in 0..3 {
             let mut host = after(&vec![(TEN, UNKNOWN); unknowns]);
             host.pass(40_000);
-            let (quiet, account) = (host.session.quiet(), host.session.account);
+            let (quiet, account) = (host.session.quiet(), host.session.account.clone());
             assert_eq!(host.session.clear(), Ok(()));
             assert_eq!(host.session.clear(), Ok(()));
-            assert_eq!((host.session.quiet(), host.session.account), (quiet, account));
+            assert_eq!((host.session.quiet(), &host.session.account), (quiet, &account));
             if unknowns > 0 {
                 // neither does the quiet time begin anew, nor are the 95,200 ms shortened
                 host.pass(55_199);

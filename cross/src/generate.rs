@@ -3,6 +3,7 @@
 use crate::bench::Simulation;
 use crate::dispenser_frame::Code;
 use crate::number;
+use crate::quick;
 use crate::random::Random;
 use crate::recording::{self, LONGEST};
 use crate::validator;
@@ -11,9 +12,11 @@ use crate::validator;
 pub enum Family {
     /// A bench at work.
     Plausible,
-    /// The same, with a loose cable: payouts are lost in succession.
+    /// Payouts one after the other: about as many as are kept, or more.
+    Many,
+    /// A bench at work with a loose cable: payouts are lost in succession.
     Loose,
-    /// The same, with bytes changed, lost, added, moved or doubled.
+    /// A bench at work, with bytes changed, lost, added, moved or doubled.
     Damaged,
     /// Records of every kind with numbers around every limit.
     Records,
@@ -25,9 +28,13 @@ pub enum Family {
     Long,
 }
 
+/// Where the turns of `Many` begin.
+const MANY: u64 = 37;
+
 impl Family {
-    pub const ALL: [Family; 7] = [
+    pub const ALL: [Family; 8] = [
         Family::Plausible,
+        Family::Many,
         Family::Loose,
         Family::Damaged,
         Family::Records,
@@ -39,6 +46,7 @@ impl Family {
     pub fn name(self) -> &'static str {
         match self {
             Family::Plausible => "plausible",
+            Family::Many => "many",
             Family::Loose => "loose",
             Family::Damaged => "damaged",
             Family::Records => "records",
@@ -51,7 +59,8 @@ impl Family {
     /// The families take turns: of a hundred recordings, so many of each.
     fn of(index: u64) -> Family {
         match index * 37 % 100 {
-            0..=44 => Family::Plausible,
+            0..=36 => Family::Plausible,
+            MANY..=44 => Family::Many,
             45..=56 => Family::Loose,
             57..=76 => Family::Damaged,
             77..=86 => Family::Records,
@@ -69,6 +78,7 @@ pub fn recording(seed: u64, index: u64) -> (Family, Vec<u8>) {
     let family = Family::of(index);
     let bytes = match family {
         Family::Plausible => plausible(random),
+        Family::Many => many(random, index / 100 * 8 + index * 37 % 100 - MANY),
         Family::Loose => loose(random),
         Family::Damaged => damaged(random),
         Family::Records => records(random),
@@ -86,6 +96,22 @@ fn plausible(random: &mut Random) -> Vec<u8> {
         _ => random.within(30, 600),
     };
     Simulation::new(random.word()).run(length as usize)
+}
+
+/// As many payouts as are kept, one fewer or more, or another number; they take turns, and so does whether the last is left open.
+fn many(random: &mut Random, turn: u64) -> Vec<u8> {
+    let payouts = match turn % 20 {
+        0..=2 => 31,
+        3..=5 => 32,
+        6..=8 => 33,
+        9..=11 => 64,
+        12..=14 => 65,
+        15 => random.within(1, 30),
+        16..=17 => random.within(34, 63),
+        18 => random.within(66, 95),
+        _ => random.within(96, 130),
+    };
+    quick::recording(random.word(), payouts, turn / 20 % 3 != 0)
 }
 
 fn loose(random: &mut Random) -> Vec<u8> {

@@ -11,11 +11,13 @@ pub mod recording;
 pub mod replay;
 pub mod report;
 
-// "Dispenser frames", "The dispenser session", "The account"; Q-5 of document 02
+// "Dispenser frames", "The dispenser session", "The account"; of document 02
 pub mod account;
 pub mod dispenser;
 pub mod dispenser_frame;
 pub mod error_class;
+pub mod kept;
+pub mod requests;
 
 // "CCNET frames", "The validator session"
 pub mod ccnet_frame;
@@ -30,10 +32,13 @@ pub mod payout_sheet;
 // Recordings to try: written as text, simulated, made from a seed.
 pub mod bench;
 pub mod generate;
+pub mod quick;
 pub mod random;
 pub mod text;
 
-// The comparison and the timing.
+// The programs, the comparison and the timing.
+pub mod comparison;
+pub mod files;
 pub mod loads;
 pub mod misread;
 pub mod other;
@@ -42,4 +47,5 @@ pub mod sheet;
 pub mod shrink;
 pub mod watch;
 pub mod wide_sheet;
+pub mod wrong_requests;
 pub mod wrong_stops;

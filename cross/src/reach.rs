@@ -1,8 +1,20 @@
 //! How many recordings reached each closing of both sessions and whatever else the comparison must not miss.
 
-use crate::watch::reached;
+use std::marker::PhantomData;
 
-/// Declares the places and the table of their names.
+/// A row of a table: the name of a place, how many recordings of a whole run must reach it, and what each part of it is, where
+/// it has parts: so many must reach each.
+pub type Row = (&'static str, u32, &'static [&'static str]);
+
+/// The places of a table: what a recording can reach.
+pub trait Places: Copy {
+    const ROWS: &'static [Row];
+
+    /// Which row is this place's.
+    fn row(self) -> usize;
+}
+
+/// Declares the places of a table and their rows.
 macro_rules! places {
     ($($place:ident = $least:literal, $name:literal $(: $($part:literal)+)?;)*) => {
         /// What a recording can reach.
@@ -11,12 +23,16 @@ macro_rules! places {
             $($place,)*
         }
 
-        /// The name of each place, how many recordings of a whole run must reach it, and what each part of it is, where it has
-        /// parts: so many must reach each.
-        const PLACES: &[(&str, u32, &[&str])] = &[$(($name, $least, &[$($($part,)+)?]),)*];
-        const COUNT: usize = PLACES.len();
+        impl $crate::reach::Places for Place {
+            const ROWS: &'static [$crate::reach::Row] = &[$(($name, $least, &[$($($part,)+)?]),)*];
+
+            fn row(self) -> usize {
+                self as usize
+            }
+        }
     };
 }
+pub(crate) use places;
 
 places! {
     Answered = 100, "dispenser: answered";
@@ -47,6 +63,8 @@ places! {
     Over = 100, "account: over";
     Short = 100, "account: short";
     BothCassettes = 100, "account: both cassettes in one command";
+    PushedOut = 100, "account: another sum, if only the last 32 payouts counted":
+        "asked" "paid" "short" "over" "refused" "unknown";
     TestRejects = 100, "account: rejects of a test";
     LastError = 100, "report: a last error of each class":
         "fine" "out of notes" "not seated" "jam" "count in doubt" "other listed" "unlisted";
@@ -115,38 +133,52 @@ places! {
 }
 
 /// What one recording reached: of each place, which parts; a place without parts is its part 0.
-pub struct Reached([u32; COUNT]);
+pub struct Reached<P> {
+    parts: Vec<u32>,
+    of: PhantomData<P>,
+}
 
-impl Reached {
-    pub fn nothing() -> Reached {
-        Reached([0; COUNT])
+impl<P: Places> Reached<P> {
+    pub fn nothing() -> Reached<P> {
+        Reached { parts: vec![0; P::ROWS.len()], of: PhantomData }
     }
 
-    pub fn mark(&mut self, place: Place) {
+    pub fn mark(&mut self, place: P) {
         self.part(place, 0);
     }
 
-    pub fn part(&mut self, place: Place, part: usize) {
-        self.0[place as usize] |= 1 << part;
+    pub fn part(&mut self, place: P, part: usize) {
+        self.parts[place.row()] |= 1 << part;
+    }
+
+    /// The parts that were reached, of places with this in their names.
+    #[cfg(test)]
+    pub fn named(&self, name: &str) -> Vec<&'static str> {
+        let rows = P::ROWS.iter().zip(&self.parts).filter(|((place, ..), _)| place.contains(name));
+        rows.flat_map(|((_, _, parts), reached)| {
+            parts.iter().enumerate().filter(move |(part, _)| reached >> part & 1 == 1).map(|(_, &part)| part)
+        })
+        .collect()
     }
 }
 
 /// Counts over a run, for each part of each place.
 #[derive(Clone, Debug)]
-pub struct Reach {
+pub struct Reach<P> {
     counts: Vec<Vec<u32>>,
+    of: PhantomData<P>,
 }
 
-impl Default for Reach {
-    fn default() -> Reach {
-        Reach { counts: PLACES.iter().map(|(_, _, parts)| vec![0; parts.len().max(1)]).collect() }
+impl<P: Places> Default for Reach<P> {
+    fn default() -> Reach<P> {
+        Reach { counts: P::ROWS.iter().map(|(_, _, parts)| vec![0; parts.len().max(1)]).collect(), of: PhantomData }
     }
 }
 
-impl Reach {
-    /// Counts what a recording reached. What a bad recording did before it went bad is not counted, since no report shows it.
-    pub fn count(&mut self, bytes: &[u8]) {
-        for (counts, reached) in self.counts.iter_mut().zip(reached(bytes).0) {
+impl<P: Places> Reach<P> {
+    /// Counts what a recording reached. What a bad recording did before it went bad is not reached, since no report shows it.
+    pub fn count(&mut self, reached: &Reached<P>) {
+        for (counts, reached) in self.counts.iter_mut().zip(&reached.parts) {
             for (part, count) in counts.iter_mut().enumerate() {
                 *count += reached >> part & 1;
             }
@@ -156,7 +188,7 @@ impl Reach {
     /// The table, a line for each place: of one with parts, how many reached the part that the fewest reached.
     pub fn table(&self) -> String {
         let mut table = String::new();
-        for ((name, _, parts), counts) in PLACES.iter().zip(&self.counts) {
+        for ((name, _, parts), counts) in P::ROWS.iter().zip(&self.counts) {
             let (part, count) = counts.iter().enumerate().min_by_key(|&(_, count)| count).unwrap_or((0, &0));
             let rarest = parts.get(part).map(|part| format!(", rarest of {}: {part}", parts.len())).unwrap_or_default();
             table += &format!("{count:>8}  {name}{rarest}\n");
@@ -168,7 +200,7 @@ impl Reach {
     pub fn missing(&self, run: u64) -> Vec<String> {
         let least = |least: u32| (u64::from(least) * run.min(20_000) / 20_000).max(u64::from(run >= 2_000));
         let mut missing = Vec::new();
-        for ((name, wanted, parts), counts) in PLACES.iter().zip(&self.counts) {
+        for ((name, wanted, parts), counts) in P::ROWS.iter().zip(&self.counts) {
             for (part, _) in counts.iter().enumerate().filter(|(_, &count)| u64::from(count) < least(*wanted)) {
                 missing.push(parts.get(part).map_or(name.to_string(), |part| format!("{name}: {part}")));
             }
@@ -180,32 +212,33 @@ impl Reach {
 #[cfg(test)]
 mod tests {
     use super::*;
+    use crate::watch::reached;
 
     #[test]
     fn a_row_shows_its_rarest_part() {
         let mut reach = Reach::default();
-        reach.count(&[0xFF]);
-        reach.count(&[0xFF]);
-        reach.count(&[0x06]);
+        reach.count(&reached(&[0xFF]));
+        reach.count(&reached(&[0xFF]));
+        reach.count(&reached(&[0x06]));
         assert!(reach.table().contains("       0  recording: bad 23, unknown kind, rarest of 3: 16 to 254\n"));
-        reach.count(&[0x20]);
+        reach.count(&reached(&[0x20]));
         assert!(reach.table().contains("       1  recording: bad 23, unknown kind, rarest of 3: 6 to 15\n"));
         assert!(reach.missing(20_000).contains(&"recording: bad 23, unknown kind: 255".to_string()));
         assert!(reach.missing(200).contains(&"recording: good".to_string()));
         assert!(!reach.missing(200).contains(&"recording: bad 23, unknown kind: 255".to_string()));
     }
 
-    /// The parts that a recording reaches of places with this in their names.
-    fn parts(name: &str, bytes: &[u8]) -> Vec<&'static str> {
-        let mut reach = Reach::default();
-        reach.count(bytes);
-        let mut all = Vec::new();
-        for ((place, _, parts), counts) in PLACES.iter().zip(&reach.counts) {
-            if place.contains(name) {
-                all.extend(parts.iter().zip(counts).filter(|(_, &count)| count > 0).map(|(&part, _)| part));
-            }
-        }
-        all
+    #[test]
+    fn the_sums_of_a_payout_that_was_pushed_out() {
+        let of = |said: &str| {
+            let reached = reached(&crate::text::recording(said).unwrap());
+            reached.named("if only the last 32 payouts counted")
+        };
+        let refused = "tick 1000 x6\npay upper 1\ndispenser 15 15 15 15\n";
+        let over = "tick 1000 x6\npay lower 1\ndispenser 06 01 50 02 55 30 32 30 32 30 30 30 30 03 05\n";
+        assert!(of(&refused.repeat(32)).is_empty());
+        assert_eq!(of(&refused.repeat(33)), ["asked", "refused"]);
+        assert_eq!(of(&(over.to_string() + &refused.repeat(32))), ["asked", "paid", "over"]);
     }
 
     #[test]
@@ -215,7 +248,7 @@ mod tests {
              pay both 10 10\n\
              dispenser 06 01 50 02 56 31 30 31 30 31 30 31 30 4C 30 30 30 30 30 30 03 4A\n",
         );
-        let reached = |text: &str| parts("last error", &crate::text::recording(text).unwrap());
+        let reached = |text: &str| reached(&crate::text::recording(text).unwrap()).named("last error");
         let both = ["jam", "4Ch", "pay both on the lower", "pay both on the upper"];
         assert_eq!(reached(&text), both);
         // a status that set both would show on both, and then still on the lower

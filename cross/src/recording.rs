@@ -129,7 +129,23 @@ impl Iterator for Records<'_> {
     }
 }
 
-/// Appends a record. Only the comparison writes recordings: what it writes need not be good.
+impl Record {
+    /// Appends the record.
+    pub fn write(self, bytes: &mut Vec<u8>) {
+        match self {
+            Record::Request(Command { code, upper, lower }) => {
+                write(REQUEST, &[u32::from(code.byte()), upper, lower], bytes)
+            }
+            Record::DispenserByte(byte) => write(DISPENSER_BYTE, &[u32::from(byte)], bytes),
+            Record::Tick(ms) => write(TICK, &[ms], bytes),
+            Record::ValidatorByte(byte) => write(VALIDATOR_BYTE, &[u32::from(byte)], bytes),
+            Record::Ask(command) => write(ASK, &[u32::from(command.byte())], bytes),
+            Record::Clear => write(CLEAR, &[], bytes),
+        }
+    }
+}
+
+/// Appends a kind byte and numbers. Only the comparison writes recordings: what it writes need not be good.
 pub fn write(kind: u8, numbers: &[u32], bytes: &mut Vec<u8>) {
     bytes.push(kind);
     for &n in numbers {

@@ -2,15 +2,20 @@
 
 use crate::account::Sums;
 use crate::error_class::ErrorClass;
+use crate::recording::Bad;
 use crate::replay::{replay, Bench};
 
 /// The report, good or bad: a function of the recording's bytes.
 pub fn report(recording: &[u8]) -> String {
     match replay(recording) {
         Ok(bench) => lines(&bench),
-        // "A bad recording writes only "bad 22 at 7", with its number and the record's offset."
-        Err(bad) => format!("bad {} at {}\n", bad.fault.number(), bad.at),
+        Err(bad) => self::bad(bad),
     }
+}
+
+/// "A bad recording writes only "bad 22 at 7", with its number and the record's offset."
+pub(crate) fn bad(bad: Bad) -> String {
+    format!("bad {} at {}\n", bad.fault.number(), bad.at)
 }
 
 /// The report of a good recording.

@@ -1,10 +1,11 @@
 //! What one recording reaches, watched record by record: what each call did, and the bytes and milliseconds that led to it.
 
-use crate::account::Sums;
+use crate::account::{Account, Sums};
 use crate::ccnet_frame::{self, Class, SYNC};
 use crate::dispenser::{self, Declined};
-use crate::dispenser_frame::{check, faults, read_answer, Answer, Code, Fault, OPENING};
+use crate::dispenser_frame::{check, faults, read_answer, Answer, Code, Fault, Payment, OPENING};
 use crate::error_class::{ErrorClass, BESIDE, LISTED};
+use crate::kept::{Entry, Fate};
 use crate::misread::Errors;
 use crate::number;
 use crate::reach::{Place, Reached};
@@ -14,7 +15,7 @@ use crate::validator::{self, Bill, Damage};
 use crate::wrong_stops;
 
 /// What a recording reached, or why it is bad.
-pub fn reached(bytes: &[u8]) -> Reached {
+pub fn reached(bytes: &[u8]) -> Reached<Place> {
     let records = match recording::records(bytes) {
         Ok(records) => records,
         Err(bad) => return faulty(bytes, bad),
@@ -36,7 +37,7 @@ pub fn reached(bytes: &[u8]) -> Reached {
 
 // Bad recordings
 
-fn faulty(bytes: &[u8], bad: Bad) -> Reached {
+fn faulty(bytes: &[u8], bad: Bad) -> Reached<Place> {
     let mut all = Reached::nothing();
     match bad.fault {
         recording::Fault::TooLong => all.mark(Place::Bad24),
@@ -56,7 +57,7 @@ fn numbers(bytes: &[u8], at: usize) -> (Vec<u32>, usize) {
     (numbers, at)
 }
 
-fn unknown(all: &mut Reached, bytes: &[u8], at: usize) {
+fn unknown(all: &mut Reached<Place>, bytes: &[u8], at: usize) {
     let kind = bytes[at];
     let code = numbers(bytes, at).0.first().copied().unwrap_or_default();
     match kind {
@@ -73,7 +74,7 @@ fn unknown(all: &mut Reached, bytes: &[u8], at: usize) {
     }
 }
 
-fn wrong_number(all: &mut Reached, bytes: &[u8], bad: Bad) {
+fn wrong_number(all: &mut Reached<Place>, bytes: &[u8], bad: Bad) {
     let kind = bytes[bad.at];
     let (before, at) = numbers(bytes, bad.at);
     let cut = bad.fault == recording::Fault::Cut;
@@ -148,7 +149,7 @@ impl Line {
 }
 
 struct Watch {
-    all: Reached,
+    all: Reached<Place>,
     bench: Bench,
     rooms: Rooms,
     dispenser: Line,
@@ -184,7 +185,7 @@ impl Watch {
         }
     }
 
-    fn ended(mut self) -> Reached {
+    fn ended(mut self) -> Reached<Place> {
         self.all.mark(Place::Good);
         if self.cleared {
             self.all.part(Place::GoodClear, 0);
@@ -200,8 +201,38 @@ impl Watch {
         if either(|sums| sums.open) {
             self.all.mark(Place::LeftOpen);
         }
+        self.pushed_out();
         self.last_errors();
         self.all
+    }
+
+    /// The sums that would be others if only the payouts that are kept counted.
+    fn pushed_out(&mut self) {
+        let account = self.bench.dispenser.account();
+        let mut kept = Account::default();
+        for Entry { command, fate, .. } in account.kept.all() {
+            kept.opened(*command);
+            match *fate {
+                Fate::Open => {}
+                Fate::Answered { upper, lower } => {
+                    let [upper, lower] = [upper, lower].map(|exit| Payment { exit, rejects: 0 });
+                    kept.answered(match command.code {
+                        Code::PayUpper => Answer::PaidUpper(upper),
+                        Code::PayLower => Answer::PaidLower(lower),
+                        _ => Answer::PaidBoth(upper, lower),
+                    });
+                }
+                Fate::Refused => kept.refused(),
+                Fate::Unknown => kept.lost(),
+            }
+        }
+        let sums: [fn(&Sums) -> u32; 6] =
+            [|s| s.asked, |s| s.paid, |s| s.short, |s| s.over, |s| s.refused, |s| s.unknown];
+        for (part, sum) in sums.into_iter().enumerate() {
+            if sum(&kept.upper) != sum(&account.upper) || sum(&kept.lower) != sum(&account.lower) {
+                self.all.part(Place::PushedOut, part);
+            }
+        }
     }
 
     /// The lines "last error".

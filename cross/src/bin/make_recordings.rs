@@ -1,9 +1,10 @@
 //! `make_recordings FOLDER`: for each NAME.txt of the folder writes the recording NAME.rec that it describes.
-//! `make_recordings --check FOLDER`: writes nothing; says whether each NAME.rec is what NAME.txt describes, and whether its
-//! report is NAME.report.
+//! `make_recordings --check FOLDER`: writes nothing; says whether each NAME.rec is what NAME.txt describes, whether its report is
+//! NAME.report and, where there is a file NAME.requests, whether the requests kept of it are those.
 
-use cross::{report::report, text};
+use cross::{report::report, requests::requests, text};
 use std::fs;
+use std::io::ErrorKind;
 use std::path::{Path, PathBuf};
 use std::process::ExitCode;
 
@@ -35,7 +36,7 @@ fn main() -> ExitCode {
     println!(
         "{good} of {} recordings {}",
         texts.len(),
-        if check { "are as their texts and reports say" } else { "made" }
+        if check { "are as their texts, reports and requests say" } else { "made" }
     );
     if good == texts.len() {
         ExitCode::SUCCESS
@@ -74,5 +75,12 @@ fn checked(text: &Path) -> Result<(), String> {
     if given != wanted {
         return Err(format!("its report should be\n{given}"));
     }
-    Ok(())
+    match fs::read_to_string(text.with_extension("requests")) {
+        Ok(wanted) if requests(&recording) != wanted => {
+            Err(format!("its requests should be\n{}", requests(&recording)))
+        }
+        Ok(_) => Ok(()),
+        Err(why) if why.kind() == ErrorKind::NotFound => Ok(()),
+        Err(why) => Err(format!("its requests: {why}")),
+    }
 }
