@@ -265,7 +265,8 @@ fn line_byte(random: &mut Random) -> u8 {
     random.pick(&[0x00, 0x01, 0x02, 0x03, 0x04, 0x06, 0x15, 0x30, 0x31, 0x45, 0x50, 0x81])
 }
 
-fn value(random: &mut Random) -> u32 {
+/// A number around a limit, or a small one.
+pub fn value(random: &mut Random) -> u32 {
     match random.below(4) {
         0 => random.pick(&[0, 1, 59, 60, 61, 127, 128, 255, 256, 999, 1_000, 1_001]),
         1 => random.pick(&[16_383, 16_384, 2_097_151, 2_097_152, 268_435_455, 268_435_456, u32::MAX]),

@@ -24,6 +24,12 @@ pub mod ccnet_frame;
 pub mod ccnet_wide;
 pub mod validator;
 
+// Q-8 of document 02
+pub mod pairs;
+pub mod parted;
+pub mod parted_files;
+pub mod parted_sheet;
+
 // Q-10 of document 02
 pub mod payout;
 pub mod payout_search;

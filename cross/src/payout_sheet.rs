@@ -153,10 +153,11 @@ impl Sheet for Reached {
         (format!("{line}\n"), line.told(self))
     }
 
-    fn table(&self) -> (String, Vec<&'static str>) {
+    fn table(&self) -> (String, Vec<String>) {
         let count = |place: &str| self.places.get(place).copied().unwrap_or(0);
         let table = PLACES.iter().map(|place| format!("{:>8}  {place}\n", count(place))).collect();
-        let few = PLACES.into_iter().filter(|place| count(place) * 100 < self.lines).collect();
+        let few =
+            PLACES.iter().filter(|place| count(place) * 100 < self.lines).map(|place| place.to_string()).collect();
         (table, few)
     }
 }

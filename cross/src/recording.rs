@@ -69,7 +69,12 @@ pub fn records(bytes: &[u8]) -> Result<Records<'_>, Bad> {
     if bytes.len() > LONGEST {
         return Err(Bad { fault: Fault::TooLong, at: 0 });
     }
-    Ok(Records { bytes, at: 0 })
+    Ok(of_any_length(bytes))
+}
+
+/// The records of a recording, however long it is.
+pub fn of_any_length(bytes: &[u8]) -> Records<'_> {
+    Records { bytes, at: 0 }
 }
 
 impl Records<'_> {
@@ -209,6 +214,29 @@ mod tests {
         assert_eq!(first(&[0, 0x80, 0x00]), bad(Fault::Number, 0));
         assert_eq!(first(&[0, 0x45, 0x80]), bad(Fault::Cut, 0));
         assert_eq!(first(&[0]), bad(Fault::Cut, 0));
+    }
+
+    /// What was read of a recording before its end or its first bad record, written again.
+    fn again(bytes: &[u8]) -> Vec<u8> {
+        let mut again = Vec::new();
+        of_any_length(bytes).map_while(Result::ok).for_each(|record| record.write(&mut again));
+        again
+    }
+
+    #[test]
+    fn what_was_read_and_is_written_again_has_the_same_bytes() {
+        let every = [0, 0x45, 10, 0, 0, 0x77, 0xFF, 0x7F, 0x80, 0x01, 1, 0xFF, 0x01, 2, 0xFF, 0xFF, 0xFF, 0xFF, 0x0F];
+        let every = [&every[..], &[3, 0x7F, 4, 0x38, 5, 2, 0, 5]].concat();
+        assert_eq!(again(&every), every);
+        for index in 0..2_000 {
+            let (_, bytes) = crate::generate::recording(9, index);
+            let good = match crate::replay::replay(&bytes) {
+                Ok(_) => bytes.len(),
+                Err(Bad { fault: Fault::TooLong, .. }) => continue,
+                Err(bad) => bad.at,
+            };
+            assert_eq!(again(&bytes), bytes[..good], "recording {index}");
+        }
     }
 
     #[test]

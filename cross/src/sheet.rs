@@ -7,23 +7,27 @@ use std::process::{Command, ExitCode, Stdio};
 
 /// The lines of one bench program, and what was reached by those that were made.
 pub trait Sheet: Default {
+    /// How many lines are made, if nobody says how many.
+    const COUNT: u64 = 12_000;
+
     /// The line at that place of the run, and what must be written for it.
     fn made(&mut self, seed: u64, index: u64) -> (String, String);
 
     /// The table of what was reached, and what was reached too seldom.
-    fn table(&self) -> (String, Vec<&'static str>);
+    fn table(&self) -> (String, Vec<String>);
 }
 
-struct Asked {
-    count: u64,
-    seed: u64,
-    batch: u64,
-    command: Vec<OsString>,
+/// What a comparison is asked for: `[--count N] [--seed N] [--batch N] -- COMMAND..`.
+pub struct Asked {
+    pub count: u64,
+    pub seed: u64,
+    pub batch: u64,
+    pub command: Vec<OsString>,
 }
 
-fn asked() -> Option<Asked> {
-    let mut asked = Asked { count: 12_000, seed: 1, batch: 500, command: Vec::new() };
-    let mut words = std::env::args_os().skip(1);
+/// What the words ask for, if they can be understood; so many, if they do not say how many.
+pub fn asked(mut words: impl Iterator<Item = OsString>, count: u64) -> Option<Asked> {
+    let mut asked = Asked { count, seed: 1, batch: 500, command: Vec::new() };
     loop {
         let word = words.next()?;
         let option = word.to_str()?;
@@ -43,7 +47,7 @@ fn asked() -> Option<Asked> {
 
 /// The program `NAME [--count N] [--seed N] [--batch N] -- COMMAND..`.
 pub fn main<S: Sheet>(name: &str) -> ExitCode {
-    let Some(asked) = asked() else {
+    let Some(asked) = asked(std::env::args_os().skip(1), S::COUNT) else {
         eprintln!("usage: {name} [--count N] [--seed N] [--batch N] -- COMMAND..");
         return ExitCode::from(2);
     };

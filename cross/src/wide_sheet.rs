@@ -232,10 +232,11 @@ impl Sheet for Reached {
         made(seed, index, self)
     }
 
-    fn table(&self) -> (String, Vec<&'static str>) {
+    fn table(&self) -> (String, Vec<String>) {
         let count = |place: &str| self.0.get(place).copied().unwrap_or(0);
         let table = PLACES.iter().map(|place| format!("{:>8}  {place}\n", count(place))).collect();
-        let few = PLACES.into_iter().filter(|place| count(place) * 100 < count("lines")).collect();
+        let few =
+            PLACES.iter().filter(|place| count(place) * 100 < count("lines")).map(|place| place.to_string()).collect();
         (table, few)
     }
 }

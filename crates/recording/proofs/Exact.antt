@@ -30,11 +30,11 @@ abbrev Said : ℕ → List ℕ → Reading → Type 0
 Said at s (records xs) = AllInRange xs × (s ≡ laid xs)
 Said at s (bad why q) = (i : ℕ) × ((q ≡ at + i) × Breaks why i s)
 
-none-laid : laid [] ≡ []
+pub none-laid : laid [] ≡ []
 unfolding laid
 none-laid = refl
 
-more-laid : (x : Record) (xs : List Record) → laid (x ∷ xs) ≡ recordBytes x ++ laid xs
+pub more-laid : (x : Record) (xs : List Record) → laid (x ∷ xs) ≡ recordBytes x ++ laid xs
 unfolding laid
 more-laid x xs = refl
 
@@ -63,7 +63,7 @@ later at x t (bad why q) i h =
       ),
     )
 
-bytes-behind : (l t : List ℕ) → AllBytes (l ++ t) → AllBytes t
+pub bytes-behind : (l t : List ℕ) → AllBytes (l ++ t) → AllBytes t
 bytes-behind [] t h = h
 bytes-behind (b ∷ l) t h = bytes-behind l t (λ i. h (suc i))
 
@@ -106,7 +106,7 @@ bytes-before [] t h i = omega arith
 bytes-before (b ∷ l) t h zero = h zero
 bytes-before (b ∷ l) t h (suc i) = bytes-before l t (λ j. h (suc j)) i
 
-bytes-take : (i : ℕ) (u : List ℕ) → AllBytes u → AllBytes (take i u)
+pub bytes-take : (i : ℕ) (u : List ℕ) → AllBytes u → AllBytes (take i u)
 bytes-take i u h = bytes-before (take i u) (drop i u) (subst AllBytes (sym (take-append-drop i u)) h)
 
 -- bytes that are one record and nothing else

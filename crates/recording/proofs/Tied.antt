@@ -3,6 +3,10 @@
 use Rattle.refusals.proofs.Tied.{Tied, tied}
 use Rattle.recording.proofs.Fault.number.Kinds as fault-number
 use Rattle.recording.proofs.Fault.number.Reads as fault-number-reads
+use Rattle.recording.proofs.is_command.Kinds as is-command
+use Rattle.recording.proofs.is_command.Reads as is-command-reads
+use Rattle.recording.proofs.is_request.Kinds as is-request
+use Rattle.recording.proofs.is_request.Reads as is-request-reads
 use Rattle.recording.proofs.Reader.fresh.Kinds as fresh
 use Rattle.recording.proofs.Reader.fresh.Reads as fresh-reads
 use Rattle.recording.proofs.Reader.byte.Kinds as byte
@@ -16,6 +20,12 @@ use Rattle.recording.proofs.judge.Reads as judge-reads
 
 pub fault-number-tied : Tied fault-number.ps fault-number.r fault-number-reads.Post (λ κs x e. x)
 fault-number-tied = tied fault-number.ps fault-number.r fault-number-reads.Post (λ κs x e. x) _ (λ κs a x e p. p)
+
+pub is-command-tied : Tied is-command.ps is-command.r is-command-reads.Post (λ κs x e. x)
+is-command-tied = tied is-command.ps is-command.r is-command-reads.Post (λ κs x e. x) _ (λ κs a x e p. p)
+
+pub is-request-tied : Tied is-request.ps is-request.r is-request-reads.Post (λ κs x e. x)
+is-request-tied = tied is-request.ps is-request.r is-request-reads.Post (λ κs x e. x) _ (λ κs a x e p. p)
 
 pub fresh-tied : Tied fresh.ps fresh.r fresh-reads.Post (λ κs x e. x)
 fresh-tied = tied fresh.ps fresh.r fresh-reads.Post (λ κs x e. x) _ (λ κs a x e p. p)

@@ -121,7 +121,7 @@ fn whole(x: Record) -> Step
 }
 
 // Is the code in kind 4's list?
-pub(crate) fn is_command(code: u32) -> bool
+pub fn is_command(code: u32) -> bool
     ensures { λ r. ⌜ r ≡ inList code .test ⌝ }
 {
     if code == 0x30 {
@@ -140,7 +140,7 @@ pub(crate) fn is_command(code: u32) -> bool
 }
 
 // Is the code in the dispenser's table?
-pub(crate) fn is_request(code: u64) -> bool
+pub fn is_request(code: u64) -> bool
     ensures { λ r. ⌜ r ≡ known code .test ⌝ }
 {
     if 255 < code {

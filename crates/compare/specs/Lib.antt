@@ -1,0 +1,2 @@
+-- What the contracts of `compare` cite.
+pub mod Progress

@@ -1,0 +1,3 @@
+-- What the contracts of `record_writer` cite.
+pub mod Writing
+pub mod Promises
