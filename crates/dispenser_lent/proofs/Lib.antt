@@ -1,0 +1,2 @@
+pub mod Tied
+mod Values

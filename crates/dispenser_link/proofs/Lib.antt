@@ -1,0 +1,4 @@
+pub mod Carried
+pub mod Size
+pub mod Tied
+mod Values
