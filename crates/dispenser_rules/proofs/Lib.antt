@@ -6,3 +6,4 @@ pub mod Demand3
 pub mod LastErrors
 pub mod Tied
 pub mod Steps
+pub mod Paying
