@@ -3,7 +3,7 @@
 use mathlib.Core.Path.{_≡_, refl}
 use Rattle.refusals.proofs.Tied.{Is}
 use Rattle.dispenser_rules.specs.Session.{pays, bookedBy, requestBooked, writtenBy, placeAfter, accountAsked, accountHeard}
-use Rattle.dispenser_rules.specs.Requests.{keptAt}
+use Rattle.dispenser_rules.specs.Requests.{unwritten, keptAt}
 use Rattle.dispenser_rules.specs.Errors.{erredBy}
 use Rattle.dispenser_books.proofs.account.booked.Kinds as booked-kinds
 use Rattle.dispenser_books.proofs.account.booked.Reads as booked-reads
@@ -23,6 +23,8 @@ use Rattle.dispenser_books.proofs.requests.kept_at.Kinds as kept-at-kin
 use Rattle.dispenser_books.proofs.requests.kept_at.Reads as kept-at-reads
 use Rattle.dispenser_books.proofs.requests.pays.Kinds as pays-kinds
 use Rattle.dispenser_books.proofs.requests.pays.Reads as pays-reads
+use Rattle.dispenser_books.proofs.requests.unwritten.Kinds as unwritten-kinds
+use Rattle.dispenser_books.proofs.requests.unwritten.Reads as unwritten-reads
 
 booked-cited : Is booked-kinds.ps booked-kinds.r booked-reads.Post (λ κs a x e. x ≡ bookedBy (a .0) (a .1 .0) (a .1 .1 .0))
 booked-cited κs a x e = refl
@@ -51,3 +53,6 @@ kept-at-cited κs a x e = refl
 
 pays-cited : Is pays-kinds.ps pays-kinds.r pays-reads.Post (λ κs a x e. x ≡ pays (a .0))
 pays-cited κs a x e = refl
+
+unwritten-cited : Is unwritten-kinds.ps unwritten-kinds.r unwritten-reads.Post (λ κs a x e. x ≡ unwritten)
+unwritten-cited κs a x e = refl

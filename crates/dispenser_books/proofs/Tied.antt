@@ -18,6 +18,8 @@ use Rattle.dispenser_books.proofs.requests.kept_at.Kinds as kept-at
 use Rattle.dispenser_books.proofs.requests.kept_at.Reads as kept-at-reads
 use Rattle.dispenser_books.proofs.requests.pays.Kinds as pays
 use Rattle.dispenser_books.proofs.requests.pays.Reads as pays-reads
+use Rattle.dispenser_books.proofs.requests.unwritten.Kinds as unwritten
+use Rattle.dispenser_books.proofs.requests.unwritten.Reads as unwritten-reads
 
 pub booked-tied : Tied booked.ps booked.r booked-reads.Post (λ κs x e. x)
 booked-tied =
@@ -49,3 +51,6 @@ kept-at-tied = tied kept-at.ps kept-at.r kept-at-reads.Post (λ κs x e. x) _ (�
 
 pub pays-tied : Tied pays.ps pays.r pays-reads.Post (λ κs x e. x)
 pays-tied = tied pays.ps pays.r pays-reads.Post (λ κs x e. x) _ (λ κs a x e p. p)
+
+pub unwritten-tied : Tied unwritten.ps unwritten.r unwritten-reads.Post (λ κs x e. x)
+unwritten-tied = tied unwritten.ps unwritten.r unwritten-reads.Post (λ κs x e. x) _ (λ κs a x e p. p)

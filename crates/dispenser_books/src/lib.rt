@@ -12,4 +12,5 @@ pub use requests::asked;
 pub use requests::heard;
 pub use requests::kept_at;
 pub use requests::pays;
+pub use requests::unwritten;
 pub use requests::write_down;

@@ -82,7 +82,8 @@ fn newest_slot(place: Place) -> usize
     place.next - 1
 }
 
-fn unwritten() -> Written
+// Nothing is written down.
+pub fn unwritten() -> Written
     ensures { λ r. ⌜ r ≡ unwritten ⌝ }
 {
     Written {
