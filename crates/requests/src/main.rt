@@ -11,7 +11,7 @@ use libc::STDERR_FILENO;
 use libc::STDIN_FILENO;
 use libc::STDOUT_FILENO;
 use refusals::Put;
-use sheet::print::print_form;
+use sheet::print_form;
 
 // One byte more than a recording may have, so that one that is too long shows.
 const ROOM: usize = 65_537;
