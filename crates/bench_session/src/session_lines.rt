@@ -38,8 +38,8 @@ fn run_others(line: &[u8], letter: u8, session: Session) -> Session {
         return commands(sheet::number(line, 3), session);
     }
     if letter == b'a' {
-        print_sums(b"\n    upper", session.account.upper);
-        print_sums(b"    lower", session.account.lower);
+        print_sums(b"\n    upper", session.account.cassettes.upper);
+        print_sums(b"    lower", session.account.cassettes.lower);
         return session;
     }
     if letter == b'o' {

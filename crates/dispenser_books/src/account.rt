@@ -1,53 +1,53 @@
-// The account: what becomes of the notes that were asked, for each cassette. It knows nothing of bytes.
+// The sums: what becomes of the notes that were asked, for each cassette. They know nothing of bytes.
 ghost use mathlib.Core.Path.{_≡_};
 ghost use Rattle.dispenser_rules.specs.Account.{accountOpened, accountPaid, accountTested, accountAnswered, accountRefused, accountUnknown};
 ghost use Rattle.dispenser_rules.specs.Session.{closedBy, bookedBy, requestBooked};
 use dispenser_frame_rules::Answer;
 use dispenser_frame_rules::Cassette;
-use dispenser_rules::Account;
 use dispenser_rules::Asked;
+use dispenser_rules::Cassettes;
 use dispenser_rules::Closing;
 use dispenser_rules::Reply;
 use exchange::sums;
 
 // A request is accepted.
-fn opened(was: Account, asked: Asked) -> Account
+fn opened(was: Cassettes, asked: Asked) -> Cassettes
     ensures { λ r. ⌜ r ≡ accountOpened was asked ⌝ }
 {
     let upper = was.upper;
     let lower = was.lower;
-    Account {
+    Cassettes {
         upper: sums::opened(upper, asked.upper),
         lower: sums::opened(lower, asked.lower),
     }
 }
 
 // It is closed as refused.
-fn closed_refused(was: Account, asked: Asked) -> Account
+fn closed_refused(was: Cassettes, asked: Asked) -> Cassettes
     ensures { λ r. ⌜ r ≡ accountRefused was asked ⌝ }
 {
     let upper = was.upper;
     let lower = was.lower;
-    Account {
+    Cassettes {
         upper: sums::closed_refused(upper, asked.upper),
         lower: sums::closed_refused(lower, asked.lower),
     }
 }
 
 // It is closed as unknown.
-fn closed_unknown(was: Account, asked: Asked) -> Account
+fn closed_unknown(was: Cassettes, asked: Asked) -> Cassettes
     ensures { λ r. ⌜ r ≡ accountUnknown was asked ⌝ }
 {
     let upper = was.upper;
     let lower = was.lower;
-    Account {
+    Cassettes {
         upper: sums::closed_unknown(upper, asked.upper),
         lower: sums::closed_unknown(lower, asked.lower),
     }
 }
 
 // It is answered.
-fn answered(was: Account, asked: Asked, answer: Answer) -> Account
+fn answered(was: Cassettes, asked: Asked, answer: Answer) -> Cassettes
     ensures { λ r. ⌜ r ≡ accountAnswered was asked answer ⌝ }
 {
     match answer {
@@ -73,7 +73,7 @@ fn answered(was: Account, asked: Asked, answer: Answer) -> Account
         } => {
             let upper = was.upper;
             let lower = was.lower;
-            Account {
+            Cassettes {
                 upper: sums::answered(upper, asked.upper, upper_exit, upper_rejects),
                 lower: sums::answered(lower, asked.lower, lower_exit, lower_rejects),
             }
@@ -93,7 +93,7 @@ fn answered(was: Account, asked: Asked, answer: Answer) -> Account
     }
 }
 
-fn paid_one(was: Account, asked: Asked, cassette: Cassette, exit: u32, rejects: u32) -> Account
+fn paid_one(was: Cassettes, asked: Asked, cassette: Cassette, exit: u32, rejects: u32) -> Cassettes
     ensures { λ r. ⌜ r ≡ accountPaid was asked cassette exit rejects ⌝ }
 {
     let upper = was.upper;
@@ -101,16 +101,16 @@ fn paid_one(was: Account, asked: Asked, cassette: Cassette, exit: u32, rejects: 
     match cassette {
         Cassette::Upper => {
             let sums = sums::answered(upper, asked.upper, exit, rejects);
-            Account { upper: sums, lower }
+            Cassettes { upper: sums, lower }
         }
         Cassette::Lower => {
             let sums = sums::answered(lower, asked.lower, exit, rejects);
-            Account { upper, lower: sums }
+            Cassettes { upper, lower: sums }
         }
     }
 }
 
-fn tested(was: Account, cassette: Cassette, rejects: u32) -> Account
+fn tested(was: Cassettes, cassette: Cassette, rejects: u32) -> Cassettes
     ensures { λ r. ⌜ r ≡ accountTested was cassette rejects ⌝ }
 {
     let upper = was.upper;
@@ -118,43 +118,43 @@ fn tested(was: Account, cassette: Cassette, rejects: u32) -> Account
     match cassette {
         Cassette::Upper => {
             let sums = sums::rejected(upper, rejects);
-            Account { upper: sums, lower }
+            Cassettes { upper: sums, lower }
         }
         Cassette::Lower => {
             let sums = sums::rejected(lower, rejects);
-            Account { upper, lower: sums }
+            Cassettes { upper, lower: sums }
         }
     }
 }
 
-// The account after a closing.
-fn close(account: Account, asked: Asked, closing: Closing) -> Account
-    ensures { λ r. ⌜ r ≡ closedBy account asked closing ⌝ }
+// The sums after a closing.
+fn close(was: Cassettes, asked: Asked, closing: Closing) -> Cassettes
+    ensures { λ r. ⌜ r ≡ closedBy was asked closing ⌝ }
 {
     match closing {
-        Closing::Nothing => account,
-        Closing::Answered(answer, _) => answered(account, asked, answer),
-        Closing::Refused => closed_refused(account, asked),
-        Closing::Unknown => closed_unknown(account, asked),
+        Closing::Nothing => was,
+        Closing::Answered(answer, _) => answered(was, asked, answer),
+        Closing::Refused => closed_refused(was, asked),
+        Closing::Unknown => closed_unknown(was, asked),
     }
 }
 
-// The account after what a byte or a tick answered.
-pub fn booked(account: Account, asked: Asked, reply: Reply) -> Account
-    ensures { λ r. ⌜ r ≡ bookedBy account asked reply ⌝ }
+// The sums after what a byte or a tick answered.
+pub fn booked(was: Cassettes, asked: Asked, reply: Reply) -> Cassettes
+    ensures { λ r. ⌜ r ≡ bookedBy was asked reply ⌝ }
 {
     match reply {
-        Reply::NotDone(_) => account,
-        Reply::Done { put: _, closing } => close(account, asked, closing),
+        Reply::NotDone(_) => was,
+        Reply::Done { put: _, closing } => close(was, asked, closing),
     }
 }
 
-// The account after what a request answered.
-pub fn booked_request(account: Account, asked: Asked, reply: Reply) -> Account
-    ensures { λ r. ⌜ r ≡ requestBooked account asked reply ⌝ }
+// The sums after what a request answered.
+pub fn booked_request(was: Cassettes, asked: Asked, reply: Reply) -> Cassettes
+    ensures { λ r. ⌜ r ≡ requestBooked was asked reply ⌝ }
 {
     match reply {
-        Reply::NotDone(_) => account,
-        Reply::Done { put: _, closing: _ } => opened(account, asked),
+        Reply::NotDone(_) => was,
+        Reply::Done { put: _, closing: _ } => opened(was, asked),
     }
 }

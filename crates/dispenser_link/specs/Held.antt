@@ -16,6 +16,7 @@ use Rattle.dispenser_rules.specs.declared.session.Closing.{Closing}
 use Rattle.dispenser_rules.specs.declared.session.Closing.the-variants.{Nothing, Answered, Refused, Unknown}
 use Rattle.dispenser_rules.specs.declared.session.Reply.{Reply}
 use Rattle.dispenser_rules.specs.declared.session.Reply.the-variants.{NotDone, Done}
+use Rattle.dispenser_rules.specs.Requests.{freshRequests}
 use Rattle.dispenser_rules.specs.declared.session.Session.{Session}
 use Rattle.dispenser_rules.specs.declared.session.Outcome.{Outcome}
 use Rattle.dispenser_link.specs.declared.held.Held.{Held}
@@ -61,7 +62,7 @@ sumsOf h =
       rejected = notes (h .rejected);
     }
 
--- a session as it is held
+-- a session as it is held; the kept requests are left out, since no call needs them
 unfoldable pub held : Session → Held
 held s =
     record {
@@ -74,12 +75,12 @@ held s =
       doubts = s .line .doubts;
       phase = phaseNumber (s .line .phase);
       asked = record { code = s .asked .code; upper = s .asked .upper; lower = s .asked .lower; span = s .asked .span };
-      upper = heldSums (s .account .upper);
-      lower = heldSums (s .account .lower);
+      upper = heldSums (s .account .cassettes .upper);
+      lower = heldSums (s .account .cassettes .lower);
       store = s .store;
     }
 
--- the session that is held
+-- the session that is held, with no request kept
 unfoldable pub sessionOf : Held → Session
 sessionOf h =
     record {
@@ -95,7 +96,7 @@ sessionOf h =
             phase = phaseOf (h .phase);
           };
       asked = record { code = h .asked .code; upper = h .asked .upper; lower = h .asked .lower; span = h .asked .span };
-      account = record { upper = sumsOf (h .upper); lower = sumsOf (h .lower) };
+      account = record { cassettes = record { upper = sumsOf (h .upper); lower = sumsOf (h .lower) }; requests = freshRequests };
       store = h .store;
     }
 

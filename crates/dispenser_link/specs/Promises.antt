@@ -17,8 +17,8 @@ unfoldable pub heldRun : Held → List Call → Held
 heldRun h [] = h
 heldRun h (c ∷ cs) = heldRun (heldCalled h c .session) cs
 
--- nothing is lost at the border: each call leaves what the call by value leaves, and after any calls from a fresh session what is held is the session after those calls, of
--- which demand 3 speaks
+-- nothing that a call needs is lost at the border: each call leaves what the call by value leaves, whatever requests that session keeps; and after any calls from a fresh
+-- session what is held is the session after those calls, of which demand 3 speaks
 pub record Carried : Type 0 where
   pub each : (s : Session) (c : Call) → heldCalled (held s) c ≡ leavesAfter (called s c)
   pub all : (cs : List Call) → heldRun (held freshSession) cs ≡ held (run host freshSession cs)

@@ -4,8 +4,10 @@ ghost use Rattle.dispenser_link.specs.Held.{phaseNumber, phaseOf, heldSu
 use dispenser_frame_rules::Answer;
 use dispenser_rules::Account;
 use dispenser_rules::Asked;
+use dispenser_rules::Cassettes;
 use dispenser_rules::Closing;
 use dispenser_rules::Reply;
+use dispenser_rules::Requests;
 use dispenser_rules::Session;
 use exchange_rules::Line;
 use exchange_rules::Notes;
@@ -34,7 +36,7 @@ pub struct HeldAsked {
     pub span: usize,
 }
 
-// The session: its line, the command, the account and the gathering store.
+// The session: its line, the command, the sums of both cassettes and the gathering store. The kept requests do not cross the border: no call needs them.
 #[repr(C)]
 pub struct Held {
     pub left: u64,
@@ -131,8 +133,9 @@ pub(crate) fn held_of(s: Session) -> Held
     let account = s.account;
     let store = s.store;
     let phase = line.phase;
-    let upper = account.upper;
-    let lower = account.lower;
+    let cassettes = account.cassettes;
+    let upper = cassettes.upper;
+    let lower = cassettes.lower;
     Held {
         left: line.left,
         quiet: line.quiet,
@@ -154,7 +157,7 @@ pub(crate) fn held_of(s: Session) -> Held
     }
 }
 
-// The session that is held.
+// The session that is held, with no request kept.
 pub(crate) fn session_of(h: Held) -> Session
     ensures { λ r. ⌜ r ≡ sessionOf h ⌝ }
 {
@@ -180,8 +183,11 @@ pub(crate) fn session_of(h: Held) -> Session
             span: asked.span,
         },
         account: Account {
-            upper: sums_of(upper),
-            lower: sums_of(lower),
+            cassettes: Cassettes {
+                upper: sums_of(upper),
+                lower: sums_of(lower),
+            },
+            requests: Requests::fresh(),
         },
         store,
     }

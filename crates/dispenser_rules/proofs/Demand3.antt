@@ -21,15 +21,15 @@ use Rattle.exchange_rules.proofs.Bounds.{bounded-longer}
 use Rattle.exchange_rules.proofs.Keeping.{settled-most}
 use Rattle.exchange_rules.proofs.Demand3.{Kept, new-sound, new-tracks, demand3 as demand3-of, told-by-history as told-of, carried-by-bytes as carried-of, run-kept, alike-at, clear-alike}
 use Rattle.dispenser_rules.specs.Session.{freshSession, requestRefusals, byteRefusals, tickRefusals, clearRefusals}
-use Rattle.dispenser_rules.specs.Account.{freshAccount}
+use Rattle.dispenser_rules.specs.Account.{freshCassettes}
 use Rattle.dispenser_rules.specs.Calls.{Call, request, byte, tick, clear, Request, Own, clears, host, history}
-use Rattle.dispenser_rules.specs.Unit.{cassette, unit, box}
+use Rattle.dispenser_rules.specs.Unit.{sumsOf, unit, box}
 use Rattle.dispenser_rules.specs.History.{TwoCassettes, AlwaysSound, NeverCut, ToldByHistory, CarriedByBytes, DeclinesByHistory}
 use Rattle.dispenser_rules.proofs.Shown.{lawful}
 use Rattle.dispenser_rules.proofs.Same.{session}
 use Rattle.dispenser_rules.proofs.Exact.{exactly-when}
 
-fresh-sums : (c : Cassette) → cassette freshAccount c ≡ freshSums
+fresh-sums : (c : Cassette) → sumsOf freshCassettes c ≡ freshSums
 fresh-sums Upper = refl
 fresh-sums Lower = refl
 
@@ -38,8 +38,8 @@ unfolding freshSession lengthWith codeIn table
 fresh-kept =
     record {
       own = refl;
-      sound = new-sound unit _ freshAccount (replicate 21 0) fresh-sums (length-replicate {A = ℕ} 21 0);
-      tracks = new-tracks unit _ freshAccount (replicate 21 0) fresh-sums (length-replicate {A = ℕ} 21 0);
+      sound = new-sound unit _ freshCassettes (replicate 21 0) fresh-sums (length-replicate {A = ℕ} 21 0);
+      tracks = new-tracks unit _ freshCassettes (replicate 21 0) fresh-sums (length-replicate {A = ℕ} 21 0);
     }
 
 rises : (h : History Request Own Ending) (q : Request) (r : List ℕ) → rising (historyRefusals unit h (asks q r)) ≡ true

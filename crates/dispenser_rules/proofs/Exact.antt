@@ -11,7 +11,7 @@ use Rattle.dispenser_frame_rules.specs.declared.answer.AnswerRead.the-variants.
 use Rattle.ledger.specs.Calls.{IsDone}
 use Rattle.ledger.proofs.Declining.{told-apart, rising, given-exactly}
 use Rattle.exchange_rules.specs.Exchange.{badFrame, heard, passed}
-use Rattle.dispenser_rules.specs.Session.{StepAfter, refusedStep, refusedOpening, stepAfter, byteAfter, openingAfter, byteRefusals, tickRefusals, requestRefusals, clearRefusals, acted, badStep, judgedStep, judgeStep, byteActed, bookedBy, requestBooked, byteStep, tickStep, requestStep, clearStep, sessionRequest, sessionByte, sessionTick, sessionClear}
+use Rattle.dispenser_rules.specs.Session.{StepAfter, refusedStep, refusedOpening, stepAfter, byteAfter, openingAfter, byteRefusals, tickRefusals, requestRefusals, clearRefusals, acted, badStep, judgedStep, judgeStep, byteActed, accountHeard, accountAsked, byteStep, tickStep, requestStep, clearStep, sessionRequest, sessionByte, sessionTick, sessionClear}
 use Rattle.dispenser_rules.specs.Calls.{returned}
 use Rattle.dispenser_rules.specs.Promises.{ExactlyWhen}
 use Rattle.exchange_rules.specs.declared.line.Line.{Line}
@@ -64,22 +64,22 @@ unfolding clearRefusals
 clear-rises l = refl
 
 pub exactly-when : ExactlyWhen
-unfolding sessionRequest sessionByte sessionTick sessionClear requestStep byteStep tickStep clearStep
+unfolding sessionRequest sessionByte sessionTick sessionClear accountAsked accountHeard requestStep byteStep tickStep clearStep
 exactly-when =
     record {
       request = λ s code upper lower r.
           given-exactly told-apart (λ why. openingAfter (refusedOpening (s .line) (s .asked) why) r) _
-          (λ w. record { session = record { line = w .line; asked = w .asked; account = requestBooked (s .account) (w .asked) (w .reply); store = s .store }; reply = w .reply; room = w .room })
+          (λ w. record { session = record { line = w .line; asked = w .asked; account = accountAsked (s .account) (w .asked) (w .line .handed) (w .reply); store = s .store }; reply = w .reply; room = w .room })
           (request-rises (s .line) code upper lower r) (λ why. refl) (λ why. refl) (_, (_, refl));
       byte = λ s b r.
           let t = heard (s .line) (s .asked .span) b in
           given-exactly told-apart (λ why. byteAfter (refusedStep (s .line) why) (s .store) r) _
-          (λ w. record { session = record { line = w .step .line; asked = s .asked; account = bookedBy (s .account) (s .asked) (w .step .reply); store = w .store }; reply = w .step .reply; room = w .step .room })
+          (λ w. record { session = record { line = w .step .line; asked = s .asked; account = accountHeard (s .account) (s .asked) (w .step .line .handed) (w .step .reply); store = w .store }; reply = w .step .reply; room = w .step .room })
           (byte-rises r) (λ why. refl) (λ why. refl) (byte-told (t .heard) (t .line) (s .asked) (s .store) (s .line .gathered) b r);
       tick = λ s ms r.
           let t = passed (s .line) ms in
           given-exactly told-apart (λ why. stepAfter (refusedStep (s .line) why) r) _
-          (λ w. record { session = record { line = w .line; asked = s .asked; account = bookedBy (s .account) (s .asked) (w .reply); store = s .store }; reply = w .reply; room = w .room })
+          (λ w. record { session = record { line = w .line; asked = s .asked; account = accountHeard (s .account) (s .asked) (w .line .handed) (w .reply); store = s .store }; reply = w .reply; room = w .room })
           (tick-rises ms r) (λ why. refl) (λ why. refl) (acted-told (t .todo) (t .line) (s .asked) r);
       clear = λ s.
           given-exactly told-apart (refusedStep (s .line)) _

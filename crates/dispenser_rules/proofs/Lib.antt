@@ -7,3 +7,6 @@ pub mod LastErrors
 pub mod Tied
 pub mod Steps
 pub mod Paying
+pub mod Ring
+pub mod Closing
+pub mod Kept

@@ -25,10 +25,11 @@ use Rattle.exchange_rules.specs.declared.line.Todo.{Todo}
 use Rattle.exchange_rules.specs.declared.line.Todo.the-variants.{Nothing as Rest, HandOver, Nak, LastNak, CloseRefused, CloseUnknown}
 use Rattle.exchange_rules.specs.declared.line.Heard.{Heard}
 use Rattle.exchange_rules.specs.declared.line.Heard.the-variants.{Keep, Judge, Do}
-use Rattle.dispenser_rules.specs.Session.{pays, clearRefusals, clearStep, sessionClear, StepAfter, ByteAfter, OpeningAfter, After, openingAfter, refusedOpening, byteAfter, stepAfter, refusedStep, doneAfter, acted, badStep, judgedStep, judgeStep, byteActed, byteRefusals, tickRefusals, requestRefusals, byteStep, tickStep, requestStep, bookedBy, requestBooked, sessionRequest, sessionByte, sessionTick}
+use Rattle.dispenser_rules.specs.Session.{pays, clearRefusals, clearStep, sessionClear, StepAfter, ByteAfter, OpeningAfter, After, openingAfter, refusedOpening, byteAfter, stepAfter, refusedStep, doneAfter, acted, badStep, judgedStep, judgeStep, byteActed, byteRefusals, tickRefusals, requestRefusals, byteStep, tickStep, requestStep, bookedBy, accountAsked, accountHeard, sessionRequest, sessionByte, sessionTick}
 use Rattle.dispenser_rules.specs.Calls.{Call, request, byte, tick, clear, called, Request, deed, returned, ending, host}
 use Rattle.dispenser_rules.specs.Unit.{Good, asked-of, verdict, unit, request-of, box, means, lent, plain-closing}
 use Rattle.dispenser_rules.specs.declared.account.Account.{Account}
+use Rattle.dispenser_rules.specs.declared.account.Cassettes.{Cassettes}
 use Rattle.dispenser_rules.specs.declared.session.Asked.{Asked}
 use Rattle.dispenser_rules.specs.declared.session.Closing.{Closing}
 use Rattle.dispenser_rules.specs.declared.session.Closing.the-variants.{Nothing, Answered, Refused, Unknown}
@@ -43,7 +44,7 @@ abbrev pub plain-reply : Reply → machine.Reply Good
 plain-reply (NotDone why) = gave why
 plain-reply (Done n c) = did n (plain-closing c)
 
-abbrev pub plain-after : After → AfterCall (Box Request Account) (machine.Reply Good)
+abbrev pub plain-after : After → AfterCall (Box Request Cassettes) (machine.Reply Good)
 plain-after w = record { session = box (w .session); reply = plain-reply (w .reply); room = w .room }
 
 abbrev pub plain-step : StepAfter → machine.StepAfter Good
@@ -103,8 +104,8 @@ module _ (q : Request) (r : List ℕ) where
 
 -- ---- the three calls
 
--- the account is booked alike
-booked-same : (x : Account) (q : Request) (p : Reply) → bookedBy x (asked-of q) p ≡ machine.bookedBy unit x q (plain-reply p)
+-- the sums are booked alike
+booked-same : (x : Cassettes) (q : Request) (p : Reply) → bookedBy x (asked-of q) p ≡ machine.bookedBy unit x q (plain-reply p)
 booked-same x q (NotDone why) = refl
 booked-same x q (Done n Nothing) = refl
 booked-same x q (Done n (Answered answer class)) = refl
@@ -127,39 +128,40 @@ module _ (l : Line) (q : Request) (x : Account) (store : List ℕ) where
   abbrev after-step : ByteAfter → After
   after-step w =
       record {
-        session = record { line = w .step .line; asked = asked-of q; account = bookedBy x (asked-of q) (w .step .reply); store = w .store };
+        session = record { line = w .step .line; asked = asked-of q; account = accountHeard x (asked-of q) (w .step .line .handed) (w .step .reply); store = w .store };
         reply = w .step .reply;
         room = w .step .room;
       }
 
   step-same : (r : List ℕ) (w : ByteAfter) (v : machine.ByteAfter Good) → plain-byte q r w ≡ v → plain-after (after-step w) ≡ machine.ofStep unit (box s) v
+  unfolding accountHeard
   step-same r w v e =
-      ap (λ (y : Account). record { session = record { line = w .step .line; asks = q; account = y; store = w .store }; reply = plain-reply (w .step .reply); room = w .step .room })
-      (booked-same x q (w .step .reply))
+      ap (λ (y : Cassettes). record { session = record { line = w .step .line; asks = q; account = y; store = w .store }; reply = plain-reply (w .step .reply); room = w .step .room })
+      (booked-same (x .cassettes) q (w .step .reply))
       ∙ ap (machine.ofStep unit (box s)) e
 
   request-same : (code upper lower : ℕ) (r : List ℕ)
       → plain-after (sessionRequest s code upper lower r) ≡ machine.called-request unit (box s) (record { code = code; upper = upper; lower = lower }) r
-  unfolding sessionRequest requestStep requestRefusals machine.called-request machine.requestRefusals
+  unfolding sessionRequest requestStep requestRefusals accountAsked machine.called-request machine.requestRefusals
   request-same code upper lower r =
       through
-      (λ (w : OpeningAfter). plain-after (record { session = record { line = w .line; asked = w .asked; account = requestBooked x (w .asked) (w .reply); store = store }; reply = w .reply; room = w .room }))
+      (λ (w : OpeningAfter). plain-after (record { session = record { line = w .line; asked = w .asked; account = accountAsked x (w .asked) (w .line .handed) (w .reply); store = store }; reply = w .reply; room = w .room }))
       (requestRefusals l code upper lower r) (λ why. openingAfter (refusedOpening l (asked-of q) why) r) _
 
   heard-same : (b : ℕ) (r : List ℕ) → plain-after (sessionByte s b r) ≡ machine.called-byte unit (box s) b r
-  unfolding sessionByte byteStep byteRefusals machine.called-byte machine.byteRefusals machine.heardStep
+  unfolding sessionByte byteStep byteRefusals accountHeard machine.called-byte machine.byteRefusals machine.heardStep
   heard-same b r =
       let t = heard l (answerLength (q .code)) b in
       through (λ (w : ByteAfter). plain-after (after-step w)) (byteRefusals r) (λ why. byteAfter (refusedStep l why) store r) _
-      ∙ ap (λ (w : AfterCall (Box Request Account) (machine.Reply Good)). judged (byteRefusals r) (left unit (box s) r) w)
+      ∙ ap (λ (w : AfterCall (Box Request Cassettes) (machine.Reply Good)). judged (byteRefusals r) (left unit (box s) r) w)
       (step-same r (byteActed (t .heard) (t .line) (asked-of q) store (l .gathered) b r) _ (byte-same q r (t .heard) (t .line) store (l .gathered) b (heard-shut l (answerLength (q .code)) b)))
 
   passed-same : (ms : ℕ) (r : List ℕ) → plain-after (sessionTick s ms r) ≡ machine.called-tick unit (box s) ms r
-  unfolding sessionTick tickStep tickRefusals machine.called-tick machine.tickRefusals
+  unfolding sessionTick tickStep tickRefusals accountHeard machine.called-tick machine.tickRefusals
   passed-same ms r =
       let t = passed l ms in
       through (λ (w : StepAfter). plain-after (after-step (record { step = w; store = store }))) (tickRefusals ms r) (λ why. stepAfter (refusedStep l why) r) _
-      ∙ ap (λ (w : AfterCall (Box Request Account) (machine.Reply Good)). judged (tickRefusals ms r) (left unit (box s) r) w)
+      ∙ ap (λ (w : AfterCall (Box Request Cassettes) (machine.Reply Good)). judged (tickRefusals ms r) (left unit (box s) r) w)
       (step-same r (record { step = acted (t .todo) (t .line) (asked-of q) r; store = store }) _
       (ap (λ (w : machine.StepAfter Good). record { step = w; store = store }) (acted-same q r (t .todo) (t .line) (passed-shut l ms))))
 

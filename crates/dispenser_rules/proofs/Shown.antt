@@ -30,16 +30,16 @@ use Rattle.ledger.specs.Told.{Verdict, good}
 use Rattle.exchange_rules.specs.Owed.{Lawful}
 use Rattle.exchange_rules.specs.declared.notes.Sums.{Sums}
 use Rattle.exchange_rules.proofs.Shown.{rejected-answered, left-answered}
-use Rattle.dispenser_rules.specs.Account.{freshAccount, accountOpened, accountRefused, accountUnknown, accountAnswered}
+use Rattle.dispenser_rules.specs.Account.{freshCassettes, accountOpened, accountRefused, accountUnknown, accountAnswered}
 use Rattle.dispenser_rules.specs.Session.{handOver, bytesPut}
 use Rattle.dispenser_rules.specs.Calls.{Request}
-use Rattle.dispenser_rules.specs.Unit.{wanted, two, exitOf, rejectsOf, layout, cassette, Good, asked-of, verdict, unit}
-use Rattle.dispenser_rules.specs.declared.account.Account.{Account}
+use Rattle.dispenser_rules.specs.Unit.{wanted, two, exitOf, rejectsOf, layout, sumsOf, Good, asked-of, verdict, unit}
+use Rattle.dispenser_rules.specs.declared.account.Cassettes.{Cassettes}
 use Rattle.dispenser_rules.proofs.Ranges.{sent-modest, answer-fits}
 
 -- ---- what a good answer's bytes say, by digit place
 
-abbrev Says : Answer → List ℕ → Type 0
+abbrev pub Says : Answer → List ℕ → Type 0
 Says (Purged e) f = Unit {0}
 Says (PaidOne k chk x e s r) f = (x ≡ two 6 f) × (r ≡ two 10 f)
 Says (PaidBoth uc ux lc lx e us ls ur lr) f = (ux ≡ two 6 f) × ((lx ≡ two 10 f) × ((ur ≡ two 15 f) × (lr ≡ two 17 f)))
@@ -53,7 +53,7 @@ says-in f =
     tt (refl, refl) tt (refl, refl) (refl, (refl, (refl, refl))) refl refl
     (λ code a b c d e g h. let l : line code ≡ row 0 none none [] purged = simp (a, b, c, d, e, g, h) in rw l tt)
 
-says : (f : List ℕ) (answer : Answer) (class : ErrorClass) → readAnswer f ≡ Read answer class → Says answer f
+pub says : (f : List ℕ) (answer : Answer) (class : ErrorClass) → readAnswer f ≡ Read answer class → Says answer f
 unfolding readAnswer
 says f answer class e =
     ⊎-elim
@@ -83,12 +83,12 @@ answers-by code x (Refused f) e = absurd (let z : _≡_ {A = ℕ} 0 1 = cc in om
 
 -- ---- what it books of a cassette
 
-record Books (a : Account) (q : Request) (f : List ℕ) (c : Cassette) (after : Sums) : Type 0 where
+record Books (a : Cassettes) (q : Request) (f : List ℕ) (c : Cassette) (after : Sums) : Type 0 where
   paid : exitOf (q .code) f c ≤ 99
   spoilt : rejectsOf (q .code) f c ≤ 99
-  booked : cassette a c .pending .0 ≡ wanted q c → after ≡ sumsAnswered (cassette a c) (wanted q c) (exitOf (q .code) f c) (rejectsOf (q .code) f c)
+  booked : sumsOf a c .pending .0 ≡ wanted q c → after ≡ sumsAnswered (sumsOf a c) (wanted q c) (exitOf (q .code) f c) (rejectsOf (q .code) f c)
 
-module _ (a : Account) (q : Request) (sent : sendable (q .code) (q .upper) (q .lower) .holds) where
+module _ (a : Cassettes) (q : Request) (sent : sendable (q .code) (q .upper) (q .lower) .holds) where
   -- where none are asked of a cassette by a code of the table
   upper-none : (code : ℕ) → code ≡ q .code → line code .upper ≡ false → q .upper ≡ 0
   unfolding sendable countsFit
@@ -101,14 +101,14 @@ module _ (a : Account) (q : Request) (sent : sendable (q .code) (q .upper) (q .l
   module _ (f : List ℕ) (c : Cassette) where
     -- paid by the answer; said nothing of; tested
     paid-books : (code e r : ℕ) → code ≡ q .code → e ≡ exitOf code f c → r ≡ rejectsOf code f c → e ≤ 69 → r ≤ 99
-        → Books a q f c (sumsAnswered (cassette a c) (wanted q c) e r)
+        → Books a q f c (sumsAnswered (sumsOf a c) (wanted q c) e r)
     paid-books code e r k u v m n =
         let x : e ≡ exitOf (q .code) f c = u ∙ ap (λ (i : ℕ). exitOf i f c) k in
         let y : r ≡ rejectsOf (q .code) f c = v ∙ ap (λ (i : ℕ). rejectsOf i f c) k in
-        record { paid = omega (arith, x); spoilt = omega (arith, y); booked = λ p. ap₂ (λ (i j : ℕ). sumsAnswered (cassette a c) (wanted q c) i j) x y }
+        record { paid = omega (arith, x); spoilt = omega (arith, y); booked = λ p. ap₂ (λ (i j : ℕ). sumsAnswered (sumsOf a c) (wanted q c) i j) x y }
 
     tested-books : (code r : ℕ) → code ≡ q .code → exitOf code f c ≡ 0 → r ≡ rejectsOf code f c → wanted q c ≡ 0 → r ≤ 99 → (after : Sums)
-        → (cassette a c .pending .0 ≡ 0 → after ≡ sumsAnswered (cassette a c) 0 0 r) → Books a q f c after
+        → (sumsOf a c .pending .0 ≡ 0 → after ≡ sumsAnswered (sumsOf a c) 0 0 r) → Books a q f c after
     tested-books code r k u v w n after done =
         let x : 0 ≡ exitOf (q .code) f c = sym u ∙ ap (λ (i : ℕ). exitOf i f c) k in
         let y : r ≡ rejectsOf (q .code) f c = v ∙ ap (λ (i : ℕ). rejectsOf i f c) k in
@@ -116,16 +116,16 @@ module _ (a : Account) (q : Request) (sent : sendable (q .code) (q .upper) (q .l
           paid = omega (arith, x);
           spoilt = omega (arith, y);
           booked = λ p.
-              done (p ∙ w) ∙ ap (λ (i : ℕ). sumsAnswered (cassette a c) i 0 r) (sym w)
-              ∙ ap₂ (λ (i j : ℕ). sumsAnswered (cassette a c) (wanted q c) i j) x y;
+              done (p ∙ w) ∙ ap (λ (i : ℕ). sumsAnswered (sumsOf a c) i 0 r) (sym w)
+              ∙ ap₂ (λ (i j : ℕ). sumsAnswered (sumsOf a c) (wanted q c) i j) x y;
         }
 
-    other-books : (code : ℕ) → code ≡ q .code → exitOf code f c ≡ 0 → rejectsOf code f c ≡ 0 → wanted q c ≡ 0 → Books a q f c (cassette a c)
-    other-books code k u v w = tested-books code 0 k u (sym v) w (lit≤ tt) (cassette a c) (λ p. left-answered (cassette a c) p)
+    other-books : (code : ℕ) → code ≡ q .code → exitOf code f c ≡ 0 → rejectsOf code f c ≡ 0 → wanted q c ≡ 0 → Books a q f c (sumsOf a c)
+    other-books code k u v w = tested-books code 0 k u (sym v) w (lit≤ tt) (sumsOf a c) (λ p. left-answered (sumsOf a c) p)
 
   module _ (f : List ℕ) where
     by-answer : (answer : Answer) (c : Cassette) → answerCode answer ≡ q .code → Says answer f → answerFits answer .holds
-        → Books a q f c (cassette (accountAnswered a (asked-of q) answer) c)
+        → Books a q f c (sumsOf (accountAnswered a (asked-of q) answer) c)
     unfolding answerFits allInRange table lineIn
     by-answer (Purged e) Upper k y g = other-books f Upper 0x44 k refl refl (upper-none 0x44 k refl)
     by-answer (Purged e) Lower k y g = other-books f Lower 0x44 k refl refl (lower-none 0x44 k refl)
@@ -146,7 +146,7 @@ module _ (a : Account) (q : Request) (sent : sendable (q .code) (q .upper) (q .l
     by-answer (Status e s0 s1) Upper k y g = other-books f Upper 0x46 k refl refl (upper-none 0x46 k refl)
     by-answer (Status e s0 s1) Lower k y g = other-books f Lower 0x46 k refl refl (lower-none 0x46 k refl)
 
-    books-good : (x : Good) (c : Cassette) → verdict (q .code) (readAnswer f) ≡ good x → Books a q f c (cassette (accountAnswered a (asked-of q) (x .answer)) c)
+    books-good : (x : Good) (c : Cassette) → verdict (q .code) (readAnswer f) ≡ good x → Books a q f c (sumsOf (accountAnswered a (asked-of q) (x .answer)) c)
     books-good x c e =
         let g = answers-by (q .code) x (readAnswer f) e in
         by-answer (x .answer) c (g .same-code) (says f (x .answer) (x .class) (g .read)) (answer-fits f (x .answer) (x .class) (g .read))
@@ -171,17 +171,17 @@ wanted-most : (q : Request) (c : Cassette) → sendable (q .code) (q .upper) (q 
 wanted-most q Upper h = omega (arith, sent-modest (asked-of q) h .upper)
 wanted-most q Lower h = omega (arith, sent-modest (asked-of q) h .lower)
 
-opens-by : (a : Account) (q : Request) (c : Cassette) → cassette (accountOpened a (asked-of q)) c ≡ sumsOpened (cassette a c) (wanted q c)
+opens-by : (a : Cassettes) (q : Request) (c : Cassette) → sumsOf (accountOpened a (asked-of q)) c ≡ sumsOpened (sumsOf a c) (wanted q c)
 unfolding accountOpened
 opens-by a q Upper = refl
 opens-by a q Lower = refl
 
-refuses-by : (a : Account) (q : Request) (c : Cassette) → cassette (accountRefused a (asked-of q)) c ≡ sumsRefused (cassette a c) (wanted q c)
+refuses-by : (a : Cassettes) (q : Request) (c : Cassette) → sumsOf (accountRefused a (asked-of q)) c ≡ sumsRefused (sumsOf a c) (wanted q c)
 unfolding accountRefused
 refuses-by a q Upper = refl
 refuses-by a q Lower = refl
 
-loses-by : (a : Account) (q : Request) (c : Cassette) → cassette (accountUnknown a (asked-of q)) c ≡ sumsUnknown (cassette a c) (wanted q c)
+loses-by : (a : Cassettes) (q : Request) (c : Cassette) → sumsOf (accountUnknown a (asked-of q)) c ≡ sumsUnknown (sumsOf a c) (wanted q c)
 unfolding accountUnknown
 loses-by a q Upper = refl
 loses-by a q Lower = refl
@@ -195,8 +195,8 @@ lawful =
       most = λ q h. answer-most (q .code);
       small = lit≤ tt;
       modest = wanted-most;
-      paid = λ q f x c h e. books-good freshAccount q h f x c e .paid;
-      spoilt = λ q f x c h e. books-good freshAccount q h f x c e .spoilt;
+      paid = λ q f x c h e. books-good freshCassettes q h f x c e .paid;
+      spoilt = λ q f x c h e. books-good freshCassettes q h f x c e .spoilt;
       opens = opens-by;
       closes-refused = refuses-by;
       closes-unknown = loses-by;

@@ -15,8 +15,7 @@ use Rattle.dispenser_frame_rules.specs.declared.answer.AnswerRead.{AnswerRead}
 use Rattle.dispenser_frame_rules.specs.declared.answer.AnswerRead.the-variants.{Read}
 use Rattle.exchange_rules.specs.Limits.{quiet, answerWait, frameWait}
 use Rattle.exchange_rules.specs.Exchange.{isOpen, turn, hearing, opened, closed, ends, starting, inside, waits, firstByte, startByte, insideByte, heardIn, heard, expiredIn, expired, passed}
-use Rattle.dispenser_rules.specs.Account.{accountOpened, accountAnswered}
-use Rattle.dispenser_rules.specs.Session.{pays, StepAfter, ByteAfter, OpeningAfter, After, openingAfter, refusedOpening, handOver, command, requestRefusals, requestStep, requestBooked, sessionRequest, stepAfter, byteAfter, refusedStep, acted, judgedStep, judgeStep, byteActed, byteRefusals, tickRefusals, byteStep, tickStep, bookedBy, sessionByte, sessionTick}
+use Rattle.dispenser_rules.specs.Session.{pays, StepAfter, ByteAfter, OpeningAfter, After, openingAfter, refusedOpening, handOver, command, requestRefusals, requestStep, accountAsked, sessionRequest, stepAfter, byteAfter, refusedStep, acted, judgedStep, judgeStep, byteActed, byteRefusals, tickRefusals, byteStep, tickStep, accountHeard, sessionByte, sessionTick}
 use Rattle.dispenser_rules.specs.Calls.{host}
 use Rattle.ledger.specs.Account.{answered}
 use Rattle.ledger.specs.Calls.{declinedAfter, Declines}
@@ -40,7 +39,7 @@ goes s l store r =
 abbrev pub closes : Session → Answer → ErrorClass → List ℕ → List ℕ → After
 closes s answer class store r =
     record {
-      session = record { line = ends (closed (s .line) quiet) (pays (s .asked .code)) answered; asked = s .asked; account = accountAnswered (s .account) (s .asked) answer; store = store };
+      session = record { line = ends (closed (s .line) quiet) (pays (s .asked .code)) answered; asked = s .asked; account = accountHeard (s .account) (s .asked) (s .line .handed) (Done 1 (Answered answer class)); store = store };
       reply = Done 1 (Answered answer class);
       room = set r 0 0x06;
     }
@@ -49,7 +48,7 @@ closes s answer class store r =
 abbrev left-by : Session → StepAfter → List ℕ → After
 left-by s w store =
     record {
-      session = record { line = w .line; asked = s .asked; account = bookedBy (s .account) (s .asked) (w .reply); store = store };
+      session = record { line = w .line; asked = s .asked; account = accountHeard (s .account) (s .asked) (w .line .handed) (w .reply); store = store };
       reply = w .reply;
       room = w .room;
     }
@@ -61,7 +60,7 @@ heard-by s w = left-by s (w .step) (w .store)
 abbrev pub opens : Session → ℕ → ℕ → ℕ → List ℕ → After
 opens s code upper lower r =
     record {
-      session = record { line = opened (s .line) (s .line .accepted + 1); asked = command code upper lower; account = accountOpened (s .account) (command code upper lower); store = s .store };
+      session = record { line = opened (s .line) (s .line .accepted + 1); asked = command code upper lower; account = accountAsked (s .account) (command code upper lower) 1 (Done (handOver (command code upper lower) r .put) NoClosing); store = s .store };
       reply = Done (handOver (command code upper lower) r .put) NoClosing;
       room = handOver (command code upper lower) r .room;
     }
@@ -82,7 +81,7 @@ request-opens s code upper lower r n =
     ap
     (λ (w : OpeningAfter).
     record {
-      session = record { line = w .line; asked = w .asked; account = requestBooked (s .account) (w .asked) (w .reply); store = s .store };
+      session = record { line = w .line; asked = w .asked; account = accountAsked (s .account) (w .asked) (w .line .handed) (w .reply); store = s .store };
       reply = w .reply;
       room = w .room;
     })
@@ -106,7 +105,7 @@ in-time l ms h =
 
 pub tick-passes : (s : Session) (ms : ℕ) (r : List ℕ) → NoneOf (tickRefusals ms r) → (isOpen (s .line .phase) ≡ true → ms < s .line .left)
     → (left : ℕ) × (sessionTick s ms r ≡ goes s (waits (s .line) left) (s .store) r)
-unfolding sessionTick tickStep
+unfolding sessionTick tickStep accountHeard
 tick-passes s ms r n h =
     let t = in-time (s .line) ms h in (
       t .0,
@@ -129,19 +128,19 @@ module _ (s : Session) (x : ℕ) (r : List ℕ) (long : 16 ≤ length r) where
 
   -- 06h, the first byte since a hand-over
   pub byte-acknowledges : s .line .phase ≡ First → x ≡ 0x06 → sessionByte s x r ≡ goes s (starting (s .line) answerWait (s .line .naks)) (s .store) r
-  unfolding firstByte
+  unfolding firstByte accountHeard
   byte-acknowledges e g = heard-at First e _ (cond-true _ _ (holds-true (same x 0x06) g))
 
   -- 01h, an answer starts
   pub byte-starts : s .line .phase ≡ Start → x ≡ 0x01
       → sessionByte s x r ≡ goes s (inside (s .line) frameWait 1) (set (s .store) (s .line .gathered) x) r
-  unfolding startByte
+  unfolding startByte accountHeard
   byte-starts e g = heard-at Start e _ (cond-true _ _ (holds-true (same x 0x01) g))
 
   -- a byte of an answer, not its last
   pub byte-gathers : s .line .phase ≡ Inside → s .line .gathered + 1 < s .asked .span
       → sessionByte s x r ≡ goes s (inside (s .line) (s .line .left) (s .line .gathered + 1)) (set (s .store) (s .line .gathered) x) r
-  unfolding insideByte
+  unfolding insideByte accountHeard
   byte-gathers e g = heard-at Inside e _ (cond-true _ _ (holds-true (under (s .line .gathered + 1) (s .asked .span)) g))
 
   -- the last byte of a good answer with the code asked

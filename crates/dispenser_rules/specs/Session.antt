@@ -2,7 +2,7 @@
 use Prim.Native.Nat.{ℕ, _+_}
 use mathlib.Core.Bool.{Bool, cond, _||_}
 use mathlib.Core.List.{List, [], _∷_}
-use lib.Dec.{eqb}
+use lib.Dec.{eqb, ltb}
 use lib.ListN.{length, take, set, replicate}
 use Rattle.refusals.specs.Rules.{Condition, Rule, says, under, atMost, within, both, isnt, judged, _gives_}
 use Rattle.refusals.specs.declared.Put.{Put}
@@ -10,12 +10,24 @@ use Rattle.refusals.specs.declared.Put.the-variants.{Bytes, Refused as NotPut}
 use Rattle.dispenser_frame_rules.specs.Table.{payUpperCode, payLowerCode, payBothCode, answerLength}
 use Rattle.dispenser_frame_rules.specs.Command.{sendable, writeCommand}
 use Rattle.dispenser_frame_rules.specs.Answer.{answerCode, readAnswer}
+use Rattle.dispenser_frame_rules.specs.declared.answer.Cassette.{Cassette}
+use Rattle.dispenser_frame_rules.specs.declared.answer.Cassette.the-variants.{Upper, Lower}
+use Rattle.dispenser_frame_rules.specs.declared.answer.Answer.{Answer}
+use Rattle.dispenser_frame_rules.specs.declared.answer.Answer.the-variants.{Purged, PaidOne, PaidBoth, Tested, Status}
 use Rattle.dispenser_frame_rules.specs.declared.answer.AnswerRead.{AnswerRead}
 use Rattle.dispenser_frame_rules.specs.declared.answer.AnswerRead.the-variants.{Read, Refused as NotRead}
 use Rattle.exchange_rules.specs.Limits.{quiet, doubtLimit, leastRoom, commandLimit, longestTick}
+use Rattle.exchange_rules.specs.Sums.{notes}
 use Rattle.exchange_rules.specs.Exchange.{freshLine, opened, closed, doubted, ends, isOpen, heard, badFrame, passed}
-use Rattle.dispenser_rules.specs.Account.{freshAccount, accountOpened, accountAnswered, accountRefused, accountUnknown}
+use Rattle.dispenser_rules.specs.Account.{accountOpened, accountAnswered, accountRefused, accountUnknown}
+use Rattle.dispenser_rules.specs.Requests.{freshAccount, advanced, newestSlot, unwritten, slotsAfter}
 use Rattle.dispenser_rules.specs.declared.account.Account.{Account}
+use Rattle.dispenser_rules.specs.declared.account.Cassettes.{Cassettes}
+use Rattle.dispenser_rules.specs.declared.requests.Standing.{Standing}
+use Rattle.dispenser_rules.specs.declared.requests.Standing.the-variants.{Open as StillOpen, Answered as WasAnswered, Refused as WasRefused, Unknown as WasUnknown}
+use Rattle.dispenser_rules.specs.declared.requests.Place.{Place}
+use Rattle.dispenser_rules.specs.declared.requests.Requests.{Requests}
+use Rattle.dispenser_rules.specs.declared.requests.Written.{Written}
 use Rattle.exchange_rules.specs.declared.line.Phase.{Phase}
 use Rattle.exchange_rules.specs.declared.line.Line.{Line}
 use Rattle.exchange_rules.specs.declared.line.Todo.{Todo}
@@ -199,21 +211,74 @@ clearRefusals l = opens (l .phase) gives Open ∷ []
 unfoldable pub clearStep : Line → Step
 clearStep l = judged (clearRefusals l) (refusedStep l) (stepped (doubted l 0) 0 Nothing)
 
--- ---- the account, booked from what a call answered
+-- ---- the sums, booked from what a call answered
 
-abbrev pub closedBy : Account → Asked → Closing → Account
+abbrev pub closedBy : Cassettes → Asked → Closing → Cassettes
 closedBy a c Nothing = a
 closedBy a c (Answered answer class) = accountAnswered a c answer
 closedBy a c Refused = accountRefused a c
 closedBy a c Unknown = accountUnknown a c
 
-abbrev pub bookedBy : Account → Asked → Reply → Account
+abbrev pub bookedBy : Cassettes → Asked → Reply → Cassettes
 bookedBy a c (NotDone why) = a
 bookedBy a c (Done n closing) = closedBy a c closing
 
-abbrev pub requestBooked : Account → Asked → Reply → Account
+abbrev pub requestBooked : Cassettes → Asked → Reply → Cassettes
 requestBooked a c (NotDone why) = a
 requestBooked a c (Done n closing) = accountOpened a c
+
+-- ---- the kept requests, written from what a call answered (02, Q-6: "the last 32 paying requests with code, counts asked, hand-overs and how each closed, .. an open
+-- one as open")
+
+-- the notes that an answer says were paid from each cassette
+abbrev pub paidOne : Cassette → ℕ → Standing
+paidOne Upper e = WasAnswered (notes e) (notes 0)
+paidOne Lower e = WasAnswered (notes 0) (notes e)
+
+abbrev pub paidBy : Answer → Standing
+paidBy (Purged e) = WasAnswered (notes 0) (notes 0)
+paidBy (PaidOne k chk exit e s r) = paidOne k exit
+paidBy (PaidBoth uc ux lc lx e us ls ur lr) = WasAnswered (notes ux) (notes lx)
+paidBy (Tested k chk e s r) = WasAnswered (notes 0) (notes 0)
+paidBy (Status e s0 s1) = WasAnswered (notes 0) (notes 0)
+
+-- how the command now stands, in the newest slot, n being its hand-overs; a command that does not pay is not kept
+unfoldable pub wrote : Place → Asked → ℕ → Standing → Written
+wrote p c n standing =
+    cond (pays (c .code))
+    (record { slot = newestSlot p; request = record { code = c .code; upper = c .upper; lower = c .lower; handed = n; standing = standing } })
+    unwritten
+
+-- it is written where a frame was put, that is more than one byte, and where the command closed
+abbrev pub writtenAt : Place → Asked → ℕ → ℕ → Closing → Written
+writtenAt p c n put Nothing = cond (ltb 1 put) (wrote p c n StillOpen) unwritten
+writtenAt p c n put (Answered answer class) = wrote p c n (paidBy answer)
+writtenAt p c n put Refused = wrote p c n WasRefused
+writtenAt p c n put Unknown = wrote p c n WasUnknown
+
+abbrev pub writtenBy : Place → Asked → ℕ → Reply → Written
+writtenBy p c n (NotDone why) = unwritten
+writtenBy p c n (Done put closing) = writtenAt p c n put closing
+
+-- an accepted paying request takes the next slot
+abbrev pub placeAfter : Place → Asked → Reply → Place
+placeAfter p c (NotDone why) = p
+placeAfter p c (Done put closing) = cond (pays (c .code)) (advanced p) p
+
+abbrev pub requestsAt : Place → Requests → Asked → ℕ → Reply → Requests
+requestsAt p r c n reply = record { place = p; slots = slotsAfter (r .slots) (writtenBy p c n reply) }
+
+-- ---- the account: after what a request answered, and after what a byte or a tick did
+
+unfoldable pub accountAsked : Account → Asked → ℕ → Reply → Account
+accountAsked a c n reply =
+    record {
+      cassettes = requestBooked (a .cassettes) c reply;
+      requests = requestsAt (placeAfter (a .requests .place) c reply) (a .requests) c n reply;
+    }
+
+unfoldable pub accountHeard : Account → Asked → ℕ → Reply → Account
+accountHeard a c n reply = record { cassettes = bookedBy (a .cassettes) c reply; requests = requestsAt (a .requests .place) (a .requests) c n reply }
 
 -- ---- the session by value
 
@@ -231,7 +296,7 @@ unfoldable pub sessionRequest : Session → ℕ → ℕ → ℕ → List ℕ →
 sessionRequest s code upper lower r =
     let w = requestStep (s .line) (s .asked) code upper lower r in
     record {
-      session = record { line = w .line; asked = w .asked; account = requestBooked (s .account) (w .asked) (w .reply); store = s .store };
+      session = record { line = w .line; asked = w .asked; account = accountAsked (s .account) (w .asked) (w .line .handed) (w .reply); store = s .store };
       reply = w .reply;
       room = w .room;
     }
@@ -240,7 +305,7 @@ unfoldable pub sessionByte : Session → ℕ → List ℕ → After
 sessionByte s b r =
     let w = byteStep (s .line) (s .asked) (s .store) b r in
     record {
-      session = record { line = w .step .line; asked = s .asked; account = bookedBy (s .account) (s .asked) (w .step .reply); store = w .store };
+      session = record { line = w .step .line; asked = s .asked; account = accountHeard (s .account) (s .asked) (w .step .line .handed) (w .step .reply); store = w .store };
       reply = w .step .reply;
       room = w .step .room;
     }
@@ -249,7 +314,7 @@ unfoldable pub sessionTick : Session → ℕ → List ℕ → After
 sessionTick s ms r =
     let w = tickStep (s .line) (s .asked) ms r in
     record {
-      session = record { line = w .line; asked = s .asked; account = bookedBy (s .account) (s .asked) (w .reply); store = s .store };
+      session = record { line = w .line; asked = s .asked; account = accountHeard (s .account) (s .asked) (w .line .handed) (w .reply); store = s .store };
       reply = w .reply;
       room = w .room;
     }

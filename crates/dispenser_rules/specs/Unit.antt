@@ -22,6 +22,7 @@ use Rattle.dispenser_rules.specs.Account.{accountOpened, accountAnswered
 use Rattle.dispenser_rules.specs.Session.{handOver, pays, command}
 use Rattle.dispenser_rules.specs.Calls.{Call, request, byte, tick, clear, Request, Own, clears}
 use Rattle.dispenser_rules.specs.declared.account.Account.{Account}
+use Rattle.dispenser_rules.specs.declared.account.Cassettes.{Cassettes}
 use Rattle.dispenser_rules.specs.declared.session.Asked.{Asked}
 use Rattle.dispenser_rules.specs.declared.session.Closing.{Closing}
 use Rattle.dispenser_rules.specs.declared.session.Closing.the-variants.{Nothing, Answered, Refused, Unknown}
@@ -62,9 +63,13 @@ layout q = commandFrame (q .code) (q .upper) (q .lower)
 
 -- ---- the unit
 
+abbrev pub sumsOf : Cassettes → Cassette → Sums
+sumsOf a Upper = a .upper
+sumsOf a Lower = a .lower
+
+-- the sums of a cassette in the account
 abbrev pub cassette : Account → Cassette → Sums
-cassette a Upper = a .upper
-cassette a Lower = a .lower
+cassette a c = sumsOf (a .cassettes) c
 
 -- a good answer, and the class of its error byte
 pub record Good : Type 0 where
@@ -79,7 +84,7 @@ abbrev pub verdict : ℕ → AnswerRead → Verdict Good
 verdict code (Read answer class) = cond (eqb (answerCode answer) code) (good (record { answer = answer; class = class })) bad
 verdict code (NotRead fault) = bad
 
-abbrev pub unit : Model Request Good Account Cassette
+abbrev pub unit : Model Request Good Cassettes Cassette
 unit =
     record {
       sendable = λ q. sendable (q .code) (q .upper) (q .lower);
@@ -88,7 +93,7 @@ unit =
       judges = λ q f. verdict (q .code) (readAnswer f);
       more = λ q. 0;
       pays = λ q. pays (q .code);
-      cassette = cassette;
+      cassette = sumsOf;
       opens = λ a q. accountOpened a (asked-of q);
       closes-refused = λ a q. accountRefused a (asked-of q);
       closes-unknown = λ a q. accountUnknown a (asked-of q);
@@ -103,9 +108,9 @@ unit =
 abbrev pub request-of : Asked → Request
 request-of a = record { code = a .code; upper = a .upper; lower = a .lower }
 
--- which session over the unit a session is
-abbrev pub box : Session → Box Request Account
-box s = record { line = s .line; asks = request-of (s .asked); account = s .account; store = s .store }
+-- which session over the unit a session is: the kept requests are its own memory, apart
+abbrev pub box : Session → Box Request Cassettes
+box s = record { line = s .line; asks = request-of (s .asked); account = s .account .cassettes; store = s .store }
 
 -- which call each is, and the room that it is lent
 abbrev pub means : Call → PlainCall Request Own

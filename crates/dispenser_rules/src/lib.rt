@@ -2,11 +2,19 @@
 // "The account".
 mod account;
 mod errors;
+mod requests;
 mod session;
 
 pub use account::Account;
+pub use account::Cassettes;
 pub use errors::LastError;
 pub use errors::LastErrors;
+pub use requests::KeptAt;
+pub use requests::KeptRequest;
+pub use requests::Place;
+pub use requests::Requests;
+pub use requests::Standing;
+pub use requests::Written;
 pub use session::Asked;
 pub use session::Closing;
 pub use session::Opening;

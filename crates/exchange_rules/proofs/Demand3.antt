@@ -188,14 +188,15 @@ module _ {R X A C S T P O Q : Type 0} {U : Model R X A C} {H : Host S T P R O Q 
   answers-same w l (gave why) r a = a
   answers-same w l (did n c) r a = a
 
+  pub call-told : (s : S) (h : History R O Ending) (t : T) → Kept s h
+      → Answers (M .says) (dueBy (U .bytes) (discipline U) h (H .deed s t)) (M .lends t) (H .returned (H .called s t .reply)) (H .called s t .room)
+  call-told s h t x =
+      answers-same (dueBy (U .bytes) (discipline U) h (H .deed s t)) (M .lends t) (H .returned (H .called s t .reply)) (H .called s t .room)
+      (rw (M .deeds s t, M .rooms s t, M .answers s t (x .own) (x .sound), M .room s t (x .own) (x .sound))
+      (called-told U K (M .box s) h (x .sound) (x .tracks) (M .means s t)))
+
   pub told-by-history : (s : S) → Kept s [] → Told H (M .says) (M .lends) (U .bytes) (discipline U) s
-  told-by-history s k ts t =
-      let x = run-kept s [] ts k in
-      let b = run H s ts in
-      let h = historyFrom H s [] ts in
-      answers-same (dueBy (U .bytes) (discipline U) h (H .deed b t)) (M .lends t) (H .returned (H .called b t .reply)) (H .called b t .room)
-      (rw (M .deeds b t, M .rooms b t, M .answers b t (x .own) (x .sound), M .room b t (x .own) (x .sound))
-      (called-told U K (M .box b) h (x .sound) (x .tracks) (M .means b t)))
+  told-by-history s k ts t = call-told (run H s ts) (historyFrom H s [] ts) t (run-kept s [] ts k)
 
   -- with what the bytes say from which the sums are read
   pub call-carries : (s : S) (h : History R O Ending) (t : T) (n : ℕ) (c : Q) (x : X) → Kept s h → H .returned (H .called s t .reply) ≡ did n c

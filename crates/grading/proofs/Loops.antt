@@ -4,8 +4,8 @@ use mathlib.Core.Path.{_≡_, refl, sym, ap, ap₂, _∙_, subst}
 use mathlib.Core.Bool.{Bool, true, false, cond, _||_}
 use mathlib.Core.List.{List, []}
 use native.Mathlib.Omega.{arith}
-use lib.ListN.{length, drop}
-use borrow.Author.Tests.{le-ltb}
+use lib.ListN.{length, drop, set}
+use borrow.Author.Tests.{le-ltb, lt-ltb}
 use Rattle.dispenser_rules.specs.Session.{sessionRequest, sessionByte, sessionTick, sessionClear}
 use Rattle.validator_rules.specs.Session.{sessionRequest as takerRequest, sessionByte as takerByte, sessionTick as takerTick}
 use Rattle.validator_rules.specs.Limits.{types}
@@ -23,9 +23,14 @@ use Rattle.recording.specs.declared.taking.NextRecord.the-variants.{Whole, Bad}
 use Rattle.recording.proofs.Folds.{reading-end, reading-short, reading-long}
 use Rattle.recording.proofs.Starts.{whole-read, whole-says, bad-says}
 use Rattle.grading_rules.specs.Replay.{Desk, freshDesk, payerDeclines, takerDeclines, given, run, told, badFindings, replayed, replayOf}
-use Rattle.grading.specs.Scaffolding.{joined}
+use Rattle.dispenser_rules.specs.Requests.{slotsAfter}
+use Rattle.dispenser_rules.specs.declared.requests.KeptRequest.{KeptRequest}
+use Rattle.dispenser_rules.specs.declared.requests.Written.{Written}
+use Rattle.dispenser_rules.specs.declared.session.Asked.{Asked}
+use Rattle.grading.specs.Scaffolding.{Shelf, shelf, booked, writtenOf, entered, joined}
 use Rattle.grading_rules.specs.declared.findings.Findings.{Findings}
 use Rattle.grading.specs.declared.desk.Books.{Books}
+use Rattle.grading.specs.declared.desk.Entry.{Entry}
 use Rattle.grading.specs.declared.desk.Run.{Run}
 
 replayed-also : (d : Desk) (x : Record) (g : Reading) → replayed d (also x g) ≡ replayed (given d x) g
@@ -77,9 +82,23 @@ counts d d′ x e =
 
 -- ---- the parts
 
-pub joins : (r : Run) {a b : Books} {bs cs : List Bills} (store store255 room room255 : List ℕ) → a ≡ b → bs ≡ cs
+pub joins : (r : Run) {a b : Shelf} {bs cs : List Bills} (store store255 room room255 : List ℕ) → a ≡ b → bs ≡ cs
     → joined r a bs store store255 room room255 ≡ joined r b cs store store255 room room255
 joins r store store255 room room255 e f = ap₂ (λ x y. joined r x y store store255 room room255) e f
+
+-- what was written down is in its slot, or nowhere
+pub in-slot : (ks : List KeptRequest) (w : Written) → w .slot < 32 → set ks (w .slot) (w .request) ≡ slotsAfter ks w
+in-slot ks w h = rw (lt-ltb (w .slot) 32 h)
+
+pub no-slot : (ks : List KeptRequest) (w : Written) → 32 ≤ w .slot → ks ≡ slotsAfter ks w
+no-slot ks w h = rw (le-ltb (w .slot) 32 h)
+
+-- the books and the slots after a record
+pub shelved : (b b′ : Books) (ks ks′ : List KeptRequest) (c : Asked) (n : ℕ) (e : Entry) (w : Written) → b′ ≡ booked b c e → w ≡ writtenOf (b′ .place) c n e
+    → ks′ ≡ slotsAfter ks w → shelf b′ ks′ ≡ entered (shelf b ks) c n e
+unfolding entered
+shelved b b′ ks ks′ c n e w p q r =
+    ap (shelf b′) (r ∙ ap (slotsAfter ks) q) ∙ ap (λ (x : Books). shelf x (slotsAfter ks (writtenOf (x .place) c n e))) p
 
 -- a record that credits no bill leaves the bills as they were
 pub no-bill : (bs : List Bills) (y : ℕ) → types ≤ y → bs ≡ bookedBy bs y

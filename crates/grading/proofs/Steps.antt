@@ -1,9 +1,15 @@
--- The validator session's part in a record. Assumes nothing.
-use mathlib.Core.Path.{_≡_, ap, ap₂}
-use Rattle.dispenser_rules.specs.Session.{After, StepAfter as Done, bookedBy}
+-- The sessions' parts in a record. Assumes nothing.
+use Prim.Native.Nat.{ℕ}
+use mathlib.Core.Path.{_≡_, refl, ap, ap₂}
+use Rattle.dispenser_rules.specs.Session.{After, StepAfter as Done, accountHeard}
+use Rattle.dispenser_rules.specs.Requests.{slotsAfter}
+use Rattle.dispenser_rules.specs.declared.session.Asked.{Asked}
+use Rattle.dispenser_rules.specs.declared.session.Reply.{Reply}
 use Rattle.dispenser_rules.specs.declared.session.Session.{Session}
 use Rattle.validator_rules.specs.Session.{LentAfter, StepAfter, afterStep}
 use Rattle.grading_rules.specs.Replay.{Desk, byValidator, byBoth}
+use Rattle.grading.specs.Scaffolding.{Shelf, shelf, booked, writtenOf, entered}
+use Rattle.grading.specs.declared.desk.Entry.the-variants.{Heard}
 
 -- a byte, whose step is w by its contract
 pub by-byte : (d : Desk) {w v : LentAfter} → w ≡ v → byValidator d (afterStep (d .validator) w) ≡ byValidator d (afterStep (d .validator) v)
@@ -20,7 +26,7 @@ by-request d e =
 abbrev ticked : Session → Done → After
 ticked s w =
     record {
-      session = record { line = w .line; asked = s .asked; account = bookedBy (s .account) (s .asked) (w .reply); store = s .store };
+      session = record { line = w .line; asked = s .asked; account = accountHeard (s .account) (s .asked) (w .line .handed) (w .reply); store = s .store };
       reply = w .reply;
       room = w .room;
     }
@@ -28,3 +34,10 @@ ticked s w =
 pub by-tick : (d : Desk) {x y : Done} {w v : LentAfter} → x ≡ y → w ≡ v
     → byBoth d (ticked (d .dispenser) x) (afterStep (d .validator) w) ≡ byBoth d (ticked (d .dispenser) y) (afterStep (d .validator) v)
 by-tick d e f = ap₂ (λ (x : Done) (w : LentAfter). byBoth d (ticked (d .dispenser) x) (afterStep (d .validator) w)) e f
+
+-- ---- what a byte or a tick books
+
+pub entered-heard : (a : Shelf) (c : Asked) (n : ℕ) (p : Reply)
+    → entered a c n (Heard p) ≡ shelf (booked (a .books) c (Heard p)) (slotsAfter (a .slots) (writtenOf (a .books .place) c n (Heard p)))
+unfolding entered
+entered-heard a c n p = refl

@@ -2,7 +2,11 @@
 -- The parts of the two sessions, which the replay keeps apart; the payer is the dispenser session, the taker the validator session.
 use Prim.Native.Nat.{ℕ}
 use mathlib.Core.List.{List}
-use Rattle.dispenser_rules.specs.Session.{bookedBy, requestBooked}
+use Rattle.dispenser_rules.specs.Session.{bookedBy, requestBooked, placeAfter, writtenBy}
+use Rattle.dispenser_rules.specs.Requests.{unwritten, slotsAfter}
+use Rattle.dispenser_rules.specs.declared.requests.KeptRequest.{KeptRequest}
+use Rattle.dispenser_rules.specs.declared.requests.Place.{Place}
+use Rattle.dispenser_rules.specs.declared.requests.Written.{Written}
 use Rattle.dispenser_rules.specs.Errors.{erredBy}
 use Rattle.exchange_rules.specs.declared.line.Line.{Line}
 use Rattle.dispenser_rules.specs.declared.session.Asked.{Asked}
@@ -19,18 +23,35 @@ abbrev pub runOf : Line → Asked → TakerLine → ℕ → ℕ → Run
 runOf payer asked taker declined all = record { payer = payer; asked = asked; taker = taker; declined = declined; records = all }
 
 -- what a record books
-abbrev pub entered : Books → Asked → Entry → Books
-entered b c Nothing = b
-entered b c (Opened reply) = record { account = requestBooked (b .account) c reply; errors = erredBy (b .errors) reply }
-entered b c (Closed reply) = record { account = bookedBy (b .account) c reply; errors = erredBy (b .errors) reply }
+abbrev pub booked : Books → Asked → Entry → Books
+booked b c Nothing = b
+booked b c (Opened reply) = record { cassettes = requestBooked (b .cassettes) c reply; place = placeAfter (b .place) c reply; errors = erredBy (b .errors) reply }
+booked b c (Closed reply) = record { cassettes = bookedBy (b .cassettes) c reply; place = b .place; errors = erredBy (b .errors) reply }
+
+-- what it writes down of a request that was handed over n times; p is the place afterwards
+abbrev pub writtenOf : Place → Asked → ℕ → Entry → Written
+writtenOf p c n Nothing = unwritten
+writtenOf p c n (Opened reply) = writtenBy p c n reply
+writtenOf p c n (Closed reply) = writtenBy p c n reply
+
+-- the books, and the slots of the kept requests, which stand apart
+pub record Shelf : Type 0 where
+  pub books : Books
+  pub slots : List KeptRequest
+
+abbrev pub shelf : Books → List KeptRequest → Shelf
+shelf b ks = record { books = b; slots = ks }
+
+unfoldable pub entered : Shelf → Asked → ℕ → Entry → Shelf
+entered a c n e = shelf (booked (a .books) c e) (slotsAfter (a .slots) (writtenOf (booked (a .books) c e .place) c n e))
 
 -- the parts, joined: what changes with each record, books and bills, the gathering stores, the rooms
-abbrev pub joined : Run → Books → List Bills → List ℕ → List ℕ → List ℕ → List ℕ → Desk
-joined r b bs store store255 room room255 =
+abbrev pub joined : Run → Shelf → List Bills → List ℕ → List ℕ → List ℕ → List ℕ → Desk
+joined r a bs store store255 room room255 =
     record {
-      dispenser = record { line = r .payer; asked = r .asked; account = b .account; store = store };
+      dispenser = record { line = r .payer; asked = r .asked; account = record { cassettes = a .books .cassettes; requests = record { place = a .books .place; slots = a .slots } }; store = store };
       validator = record { line = r .taker; bills = bs; store = store255 };
-      errors = b .errors;
+      errors = a .books .errors;
       room = room;
       room255 = room255;
       declined = r .declined;

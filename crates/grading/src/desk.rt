@@ -8,13 +8,16 @@ ghost use Rattle.validator_rules.specs.Bills.{bookedBy};
 ghost use Rattle.validator_rules.specs.declared.bills.Bills.{Bills};
 ghost use Rattle.recording.specs.declared.Record.the-variants.{Request, DispenserByte, Tick, ValidatorByte, Command, Clear};
 ghost use Rattle.grading_rules.specs.Replay.{payerDeclines, takerDeclines, given, badFindings, replayOf};
-ghost use Rattle.grading.specs.Scaffolding.{runOf, entered, joined};
-ghost use Rattle.grading.specs.declared.desk.Books.{Books};
+ghost use Rattle.grading.specs.Scaffolding.{Shelf, runOf, booked, writtenOf, entered, joined};
 ghost use Rattle.grading.specs.declared.desk.Entry.the-variants.{Heard};
 ghost use Rattle.dispenser_rules.specs.declared.session.Asked.{Asked};
 use dispenser_rules::Account;
 use dispenser_rules::Asked;
+use dispenser_rules::Cassettes;
 use dispenser_rules::LastErrors;
+use dispenser_rules::Place;
+use dispenser_rules::Requests;
+use dispenser_rules::Written;
 use grading_rules::Ending;
 use grading_rules::Findings;
 use recording::Fault;
@@ -77,9 +80,11 @@ fn assembled(
     }
 }
 
-// What is booked of the dispenser: the account, and the last error of each cassette.
+// What is booked of the dispenser: the sums of both cassettes, where the next request is kept, and the last error of each cassette. The slots of the kept requests stand apart, so
+// that nothing moves them.
 pub(crate) struct Books {
-    pub account: Account,
+    pub cassettes: Cassettes,
+    pub place: Place,
     pub errors: LastErrors,
 }
 
@@ -139,14 +144,20 @@ fn counted(n: u64, declined: bool) -> u64
     n
 }
 
-// What the dispenser session made of a byte or a tick: something to book where it closed a command, and else nothing. The books are passed over where there is nothing.
+// What the dispenser session made of a byte or a tick: something to book where it closed a command or handed it over again, and else nothing. The books are passed over where there
+// is nothing.
 fn heard(reply: dispenser_rules::Reply) -> Entry
-    ensures { λ r. ⌜ ((b : Books) (c : Asked) → entered b c r ≡ entered b c (Heard reply)) ⌝ }
+    ensures { λ r. ⌜ ((a : Shelf) (c : Asked) (n : ℕ) → entered a c n r ≡ entered a c n (Heard reply)) ⌝ }
 {
     match reply {
         dispenser_rules::Reply::NotDone(_) => Entry::Nothing,
-        dispenser_rules::Reply::Done { put: _, closing } => match closing {
-            dispenser_rules::Closing::Nothing => Entry::Nothing,
+        dispenser_rules::Reply::Done { put, closing } => match closing {
+            dispenser_rules::Closing::Nothing => {
+                if 1 < put {
+                    return Entry::Heard(reply);
+                }
+                Entry::Nothing
+            }
             _ => Entry::Heard(reply),
         },
     }
@@ -156,7 +167,7 @@ fn heard(reply: dispenser_rules::Reply) -> Entry
 fn requested(run: Run, code: u8, upper: u32, lower: u32, room: &mut [u8; 16]) -> Moved
     requires { ⌜ run .declined < 4_294_967_296 ⌝ }
     requires { ⌜ run .records < 4_294_967_296 ⌝ }
-    ensures { λ r. ⌜ ((a : Books) (bs : List Bills) (store store255 room255 : List ℕ) → joined (r .run) (entered a (r .run .asked) (r .entry)) (bookedBy bs (r .bill)) store store255 (now (room .exit)) room255 ≡ given (joined run a bs store store255 (now (room .entry)) room255) (Request code upper lower)) ⌝ }
+    ensures { λ r. ⌜ ((a : Shelf) (bs : List Bills) (store store255 room255 : List ℕ) → joined (r .run) (entered a (r .run .asked) (r .run .payer .handed) (r .entry)) (bookedBy bs (r .bill)) store store255 (now (room .exit)) room255 ≡ given (joined run a bs store store255 (now (room .entry)) room255) (Request code upper lower)) ⌝ }
 {
     let payer = run.payer;
     let asked = run.asked;
@@ -178,7 +189,7 @@ fn requested(run: Run, code: u8, upper: u32, lower: u32, room: &mut [u8; 16]) ->
 fn dispenser_byte(run: Run, store: &mut [u8; 21], b: u8, room: &mut [u8; 16]) -> Moved
     requires { ⌜ run .declined < 4_294_967_296 ⌝ }
     requires { ⌜ run .records < 4_294_967_296 ⌝ }
-    ensures { λ r. ⌜ ((a : Books) (bs : List Bills) (store255 room255 : List ℕ) → joined (r .run) (entered a (r .run .asked) (r .entry)) (bookedBy bs (r .bill)) (now (store .exit)) store255 (now (room .exit)) room255 ≡ given (joined run a bs (now (store .entry)) store255 (now (room .entry)) room255) (DispenserByte b)) ⌝ }
+    ensures { λ r. ⌜ ((a : Shelf) (bs : List Bills) (store255 room255 : List ℕ) → joined (r .run) (entered a (r .run .asked) (r .run .payer .handed) (r .entry)) (bookedBy bs (r .bill)) (now (store .exit)) store255 (now (room .exit)) room255 ≡ given (joined run a bs (now (store .entry)) store255 (now (room .entry)) room255) (DispenserByte b)) ⌝ }
 {
     let payer = run.payer;
     let asked = run.asked;
@@ -206,7 +217,7 @@ fn ticked(
 ) -> Moved
     requires { ⌜ run .declined < 4_294_967_296 ⌝ }
     requires { ⌜ run .records < 4_294_967_296 ⌝ }
-    ensures { λ r. ⌜ ((a : Books) (bs : List Bills) (store : List ℕ) → joined (r .run) (entered a (r .run .asked) (r .entry)) (bookedBy bs (r .bill)) store (now (store255 .exit)) (now (room .exit)) (now (room255 .exit)) ≡ given (joined run a bs store (now (store255 .entry)) (now (room .entry)) (now (room255 .entry))) (Tick ms)) ⌝ }
+    ensures { λ r. ⌜ ((a : Shelf) (bs : List Bills) (store : List ℕ) → joined (r .run) (entered a (r .run .asked) (r .run .payer .handed) (r .entry)) (bookedBy bs (r .bill)) store (now (store255 .exit)) (now (room .exit)) (now (room255 .exit)) ≡ given (joined run a bs store (now (store255 .entry)) (now (room .entry)) (now (room255 .entry))) (Tick ms)) ⌝ }
 {
     let payer = run.payer;
     let asked = run.asked;
@@ -233,7 +244,7 @@ fn ticked(
 fn validator_byte(run: Run, store255: &mut [u8; 255], b: u8, room255: &mut [u8; 255]) -> Moved
     requires { ⌜ run .declined < 4_294_967_296 ⌝ }
     requires { ⌜ run .records < 4_294_967_296 ⌝ }
-    ensures { λ r. ⌜ ((a : Books) (bs : List Bills) (store room : List ℕ) → joined (r .run) (entered a (r .run .asked) (r .entry)) (bookedBy bs (r .bill)) store (now (store255 .exit)) room (now (room255 .exit)) ≡ given (joined run a bs store (now (store255 .entry)) room (now (room255 .entry))) (ValidatorByte b)) ⌝ }
+    ensures { λ r. ⌜ ((a : Shelf) (bs : List Bills) (store room : List ℕ) → joined (r .run) (entered a (r .run .asked) (r .run .payer .handed) (r .entry)) (bookedBy bs (r .bill)) store (now (store255 .exit)) room (now (room255 .exit)) ≡ given (joined run a bs store (now (store255 .entry)) room (now (room255 .entry))) (ValidatorByte b)) ⌝ }
 {
     let payer = run.payer;
     let asked = run.asked;
@@ -255,7 +266,7 @@ fn validator_byte(run: Run, store255: &mut [u8; 255], b: u8, room255: &mut [u8; 
 fn commanded(run: Run, code: u8, room255: &mut [u8; 255]) -> Moved
     requires { ⌜ run .declined < 4_294_967_296 ⌝ }
     requires { ⌜ run .records < 4_294_967_296 ⌝ }
-    ensures { λ r. ⌜ ((a : Books) (bs : List Bills) (store store255 room : List ℕ) → joined (r .run) (entered a (r .run .asked) (r .entry)) (bookedBy bs (r .bill)) store store255 room (now (room255 .exit)) ≡ given (joined run a bs store store255 room (now (room255 .entry))) (Command code)) ⌝ }
+    ensures { λ r. ⌜ ((a : Shelf) (bs : List Bills) (store store255 room : List ℕ) → joined (r .run) (entered a (r .run .asked) (r .run .payer .handed) (r .entry)) (bookedBy bs (r .bill)) store store255 room (now (room255 .exit)) ≡ given (joined run a bs store store255 room (now (room255 .entry))) (Command code)) ⌝ }
 {
     let payer = run.payer;
     let asked = run.asked;
@@ -276,7 +287,7 @@ fn commanded(run: Run, code: u8, room255: &mut [u8; 255]) -> Moved
 fn cleared(run: Run) -> Moved
     requires { ⌜ run .declined < 4_294_967_296 ⌝ }
     requires { ⌜ run .records < 4_294_967_296 ⌝ }
-    ensures { λ r. ⌜ ((a : Books) (bs : List Bills) (store store255 room room255 : List ℕ) → joined (r .run) (entered a (r .run .asked) (r .entry)) (bookedBy bs (r .bill)) store store255 room room255 ≡ given (joined run a bs store store255 room room255) Clear) ⌝ }
+    ensures { λ r. ⌜ ((a : Shelf) (bs : List Bills) (store store255 room room255 : List ℕ) → joined (r .run) (entered a (r .run .asked) (r .run .payer .handed) (r .entry)) (bookedBy bs (r .bill)) store store255 room room255 ≡ given (joined run a bs store store255 room room255) Clear) ⌝ }
 {
     let payer = run.payer;
     let asked = run.asked;
@@ -304,7 +315,7 @@ fn step(
 ) -> Moved
     requires { ⌜ run .declined < 4_294_967_296 ⌝ }
     requires { ⌜ run .records < 4_294_967_296 ⌝ }
-    ensures { λ r. ⌜ ((a : Books) (bs : List Bills) → joined (r .run) (entered a (r .run .asked) (r .entry)) (bookedBy bs (r .bill)) (now (store .exit)) (now (store255 .exit)) (now (room .exit)) (now (room255 .exit)) ≡ given (joined run a bs (now (store .entry)) (now (store255 .entry)) (now (room .entry)) (now (room255 .entry))) x) ⌝ }
+    ensures { λ r. ⌜ ((a : Shelf) (bs : List Bills) → joined (r .run) (entered a (r .run .asked) (r .run .payer .handed) (r .entry)) (bookedBy bs (r .bill)) (now (store .exit)) (now (store255 .exit)) (now (room .exit)) (now (room255 .exit)) ≡ given (joined run a bs (now (store .entry)) (now (store255 .entry)) (now (room .entry)) (now (room255 .entry))) x) ⌝ }
 {
     match x {
         Record::Request { code, upper, lower } => requested(run, code, upper, lower, room),
@@ -318,26 +329,41 @@ fn step(
 
 // The books after what a record books.
 fn booked(books: Books, asked: Asked, entry: Entry) -> Books
-    ensures { λ r. ⌜ r ≡ entered books asked entry ⌝ }
+    ensures { λ r. ⌜ r ≡ booked books asked entry ⌝ }
 {
-    let account = books.account;
-    let were = books.errors;
+    let were = books.cassettes;
+    let held = books.place;
+    let known = books.errors;
     match entry {
         Entry::Nothing => books,
         Entry::Asked(reply) => {
-            let errors = dispenser_books::erred(were, reply);
+            let errors = dispenser_books::erred(known, reply);
+            let place = dispenser_books::advance(held, asked, reply);
             Books {
-                account: dispenser_books::booked_request(account, asked, reply),
+                cassettes: dispenser_books::booked_request(were, asked, reply),
+                place,
                 errors,
             }
         }
         Entry::Heard(reply) => {
-            let errors = dispenser_books::erred(were, reply);
+            let errors = dispenser_books::erred(known, reply);
             Books {
-                account: dispenser_books::booked(account, asked, reply),
+                cassettes: dispenser_books::booked(were, asked, reply),
+                place: held,
                 errors,
             }
         }
+    }
+}
+
+// What a record writes down of a request.
+fn written(place: Place, asked: Asked, handed: u32, entry: Entry) -> Written
+    ensures { λ r. ⌜ r ≡ writtenOf place asked handed entry ⌝ }
+{
+    match entry {
+        Entry::Nothing => dispenser_books::unwritten(),
+        Entry::Asked(reply) => dispenser_books::write_down(place, asked, handed, reply),
+        Entry::Heard(reply) => dispenser_books::write_down(place, asked, handed, reply),
     }
 }
 
@@ -345,10 +371,8 @@ fn booked(books: Books, asked: Asked, entry: Entry) -> Books
 fn bad(why: Fault, at: u32) -> Findings
     ensures { λ r. ⌜ r ≡ badFindings why at ⌝ }
 {
-    let fresh = dispenser_rules::Session::fresh();
-    let account = fresh.account;
     Findings {
-        account,
+        account: Account::fresh(),
         errors: LastErrors::fresh(),
         bills: [Bills(0); 24],
         declined: 0,
@@ -377,8 +401,16 @@ pub fn replay(recording: &[u8]) -> Findings
         records: 0,
     };
     let account = dispenser.account;
+    let cassettes = account.cassettes;
+    let requests = account.requests;
+    let place = requests.place;
     let errors = LastErrors::fresh();
-    let mut books = Books { account, errors };
+    let mut books = Books {
+        cassettes,
+        place,
+        errors,
+    };
+    let mut slots = requests.slots;
     let mut bills = validator.bills;
     let mut store = dispenser.store;
     let mut store255 = validator.store;
@@ -401,6 +433,14 @@ pub fn replay(recording: &[u8]) -> Findings
                 let asked = run.asked;
                 let entered = booked(books, asked, entry);
                 books = entered;
+                let place = books.place;
+                let payer = run.payer;
+                let noted = written(place, asked, payer.handed, entry);
+                let slot = noted.slot;
+                let request = noted.request;
+                if slot < Requests::MOST {
+                    slots[slot] = request;
+                }
                 let bill = moved.bill;
                 if bill < validator_rules::Session::TYPES {
                     let counts = validator::booked(bills, bill);
@@ -411,10 +451,14 @@ pub fn replay(recording: &[u8]) -> Findings
     }
     let declined = run.declined as u32;
     let records = run.records as u32;
-    let account = books.account;
+    let cassettes = books.cassettes;
+    let place = books.place;
     let errors = books.errors;
     Findings {
-        account,
+        account: Account {
+            cassettes,
+            requests: Requests { place, slots },
+        },
         errors,
         bills,
         declined,

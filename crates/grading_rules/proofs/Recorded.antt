@@ -16,6 +16,8 @@ use Rattle.dispenser_rules.specs.Errors.{noErrors, lastOf, erredBy, errorsFrom}
 use Rattle.dispenser_rules.specs.declared.errors.LastErrors.{LastErrors}
 use Rattle.dispenser_rules.proofs.Demand3.{demand3}
 use Rattle.dispenser_rules.proofs.LastErrors.{errors-by-history}
+use Rattle.dispenser_rules.proofs.Kept.{kept-by-history as requests-by-history}
+use Rattle.dispenser_rules.specs.Requests.{oldestFirst}
 use Rattle.dispenser_rules.specs.declared.session.Session.{Session}
 use Rattle.dispenser_rules.specs.declared.session.Step.{Step}
 use Rattle.validator_rules.specs.Session.{freshSession as freshTaker}
@@ -139,6 +141,10 @@ as-recorded s xs h e =
             ∙ ap (λ (w : Session). plain (cassette (w .account) c)) (session-ran xs)
             ∙ demand3 .account (calls freshDesk xs) c;
         balance = demand3 .balance (calls freshDesk xs);
+        kept =
+            ap (λ (f : Findings). oldestFirst (f .account .requests)) g
+            ∙ ap (λ (w : Session). oldestFirst (w .account .requests)) (session-ran xs)
+            ∙ requests-by-history .kept (calls freshDesk xs);
         errors-told = λ c.
             ap (λ (f : Findings). lastOf (f .errors) c) g ∙ ap (λ (e : LastErrors). lastOf e c) (errors-told xs) ∙ errors-by-history (calls freshDesk xs) c;
         bills-told = λ y l. rw (g, taker-ran xs i) (kept-by-history .bills (takerCalls freshDesk xs i) y l);

@@ -12,6 +12,8 @@ use Rattle.dispenser_frame_rules.specs.declared.answer.Cassette.{Cassette}
 use Rattle.dispenser_rules.specs.Session.{sessionRequest, sessionByte, sessionTick, sessionClear}
 use Rattle.dispenser_rules.specs.Calls.{Call, request, byte, tick, clear, history}
 use Rattle.dispenser_rules.specs.Errors.{lastOf, lastErrorIn}
+use Rattle.dispenser_rules.specs.Requests.{oldestFirst}
+use Rattle.dispenser_rules.specs.Kept.{lastPaying}
 use Rattle.exchange_rules.specs.Machine.{plain}
 use Rattle.dispenser_rules.specs.Unit.{model2000T, cassette}
 use Rattle.validator_rules.specs.Limits.{types}
@@ -76,6 +78,8 @@ pub record Recorded (s : List ℕ) (xs : List Record) (i : AllInRange xs) : Type
   -- the sums are those of demand 3, for the calls that the recording makes, and they balance
   pub account : (c : Cassette) → plain (cassette (replayOf s .account) c) ≡ sums model2000T (history (calls freshDesk xs)) c
   pub balance : (c : Cassette) → Balanced (sums model2000T (history (calls freshDesk xs)) c)
+  -- the kept requests are the last 32 paying ones of that history, oldest first
+  pub kept : oldestFirst (replayOf s .account .requests) ≡ lastPaying (calls freshDesk xs)
   -- the last error of each cassette is the class of the error byte of its last good paying or test answer, by the bytes of the history
   pub errors-told : (c : Cassette) → lastOf (replayOf s .errors) c ≡ lastErrorIn (commands model2000T (history (calls freshDesk xs))) c
   -- the bills are those of the validator's history

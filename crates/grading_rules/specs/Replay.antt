@@ -4,7 +4,7 @@ use Prim.Native.Nat.{ℕ, _+_}
 use mathlib.Core.Bool.{Bool, true, false, cond, _||_}
 use mathlib.Core.List.{List, [], _∷_}
 use lib.ListN.{replicate}
-use Rattle.dispenser_rules.specs.Account.{freshAccount}
+use Rattle.dispenser_rules.specs.Requests.{freshAccount}
 use Rattle.dispenser_rules.specs.Errors.{noErrors, erredBy}
 use Rattle.dispenser_rules.specs.declared.errors.LastErrors.{LastErrors}
 use Rattle.dispenser_rules.specs.Session.{After, freshSession, sessionRequest, sessionByte, sessionTick, sessionClear}

@@ -14,7 +14,7 @@ use Rattle.ledger.specs.Calls.{run as ran}
 use Rattle.dispenser_rules.specs.Calls.{host}
 use Rattle.dispenser_rules.specs.Session.{freshSession}
 use Rattle.exchange_rules.specs.declared.notes.Sums.{Sums}
-use Rattle.dispenser_rules.specs.declared.account.Account.{Account}
+use Rattle.dispenser_rules.specs.declared.account.Cassettes.{Cassettes}
 use Rattle.dispenser_rules.specs.declared.errors.LastError.{LastError}
 use Rattle.dispenser_rules.specs.declared.errors.LastError.the-variants.{NoneYet, Of}
 use Rattle.dispenser_rules.specs.declared.errors.LastErrors.{LastErrors}
@@ -127,7 +127,7 @@ seven : (a b c d e f g : List ℕ)
     → length (a ++ (b ++ (c ++ (d ++ (e ++ (f ++ g)))))) ≡ length a + (length b + (length c + (length d + (length e + (length f + length g)))))
 seven a b c d e f g = simp length-append
 
-good-most : (a : Account) (es : LastErrors) (bs : List Bills) (declined all : ℕ) → Few (a .upper) → Few (a .lower) → length bs ≡ 24
+good-most : (a : Cassettes) (es : LastErrors) (bs : List Bills) (declined all : ℕ) → Few (a .upper) → Few (a .lower) → length bs ≡ 24
     → ((k : ℕ) → k < 24 → getD bs k (bills 0) .0 < end32) → declined < end32 → all < end32 → length (lines (goodLines a es bs declined all)) ≤ longest
 good-most a es bs declined all u l n f d r =
     rw (lines-more, lines-more, lines-more, lines-more, lines-more, lines-append, lines-one)
@@ -208,9 +208,9 @@ good-enough s xs h e =
     let b : (k : ℕ) → k < 24 → getD (run freshDesk xs .validator .bills) k (bills 0) .0 < end32
     = λ k l. omega (arith, sym (ap (λ (f : Findings). getD (f .bills) k (bills 0) .0) (good-replay s xs e)) ∙ r .bills-told k l, kept-by-history .few (takerCalls freshDesk xs (p .0)) k l) in
     rw (good-replay s xs e)
-    (good-most (run freshDesk xs .dispenser .account) (run freshDesk xs .errors) (run freshDesk xs .validator .bills) (run freshDesk xs .declined) (run freshDesk xs .records)
-    (subst (λ (y : Session). Few (y .account .upper)) (sym c) (bounded-few (ran host freshSession (calls freshDesk xs) .account .upper) (cut Upper)))
-    (subst (λ (y : Session). Few (y .account .lower)) (sym c) (bounded-few (ran host freshSession (calls freshDesk xs) .account .lower) (cut Lower)))
+    (good-most (run freshDesk xs .dispenser .account .cassettes) (run freshDesk xs .errors) (run freshDesk xs .validator .bills) (run freshDesk xs .declined) (run freshDesk xs .records)
+    (subst (λ (y : Session). Few (y .account .cassettes .upper)) (sym c) (bounded-few (ran host freshSession (calls freshDesk xs) .account .cassettes .upper) (cut Upper)))
+    (subst (λ (y : Session). Few (y .account .cassettes .lower)) (sym c) (bounded-few (ran host freshSession (calls freshDesk xs) .account .cassettes .lower) (cut Lower)))
     (bills-ran freshDesk xs ∙ fresh-bills)
     b
     (omega (arith, n, refusals-most freshDesk xs, sym (ap (λ (f : Findings). f .declined) (good-replay s xs e)) ∙ r .declined))

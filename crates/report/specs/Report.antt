@@ -6,7 +6,7 @@ use mathlib.Core.List.{List, [], _∷_, _++_}
 use lib.Dec.{eqb}
 use Rattle.numbers.specs.Decimal.{decimal}
 use Rattle.exchange_rules.specs.declared.notes.Sums.{Sums}
-use Rattle.dispenser_rules.specs.declared.account.Account.{Account}
+use Rattle.dispenser_rules.specs.declared.account.Cassettes.{Cassettes}
 use Rattle.dispenser_rules.specs.declared.errors.LastError.{LastError}
 use Rattle.dispenser_rules.specs.declared.errors.LastError.the-variants.{NoneYet, Of}
 use Rattle.dispenser_rules.specs.declared.errors.LastErrors.{LastErrors}
@@ -63,13 +63,13 @@ typeLines y [] = []
 typeLines y (n ∷ ns) = typeLine y n ++ typeLines (suc y) ns
 
 -- "after the two cassette lines the report adds "upper last error NAME" and "lower last error NAME"" (02, Q-5)
-abbrev pub cassetteLines : Account → LastErrors → List (List ℕ)
+abbrev pub cassetteLines : Cassettes → LastErrors → List (List ℕ)
 cassetteLines a es =
     sumsLine (bytesOf "upper") (a .upper) ∷ sumsLine (bytesOf "lower") (a .lower)
     ∷ errorLine (bytesOf "upper last error ") (es .upper) ∷ errorLine (bytesOf "lower last error ") (es .lower) ∷ []
 
 -- the lines of a good recording's report: those of the types stand between "declined" and "records"
-abbrev pub goodLines : Account → LastErrors → List Bills → ℕ → ℕ → List (List ℕ)
+abbrev pub goodLines : Cassettes → LastErrors → List Bills → ℕ → ℕ → List (List ℕ)
 goodLines a es bs declined records = cassetteLines a es ++ (field "declined " declined ∷ (typeLines 0 bs ++ (field "records " records ∷ [])))
 
 -- "A bad recording writes only "bad 22 at 7", with its number and the record's offset."
@@ -77,7 +77,7 @@ abbrev pub badLine : Fault → ℕ → List ℕ
 badLine why at = field "bad " (faultNumber why) ++ field " at " at
 
 abbrev pub linesIn : Ending → Findings → List (List ℕ)
-linesIn Good f = goodLines (f .account) (f .errors) (f .bills) (f .declined) (f .records)
+linesIn Good f = goodLines (f .account .cassettes) (f .errors) (f .bills) (f .declined) (f .records)
 linesIn (Bad why at) f = badLine why at ∷ []
 
 -- the report of what a replay left

@@ -10,7 +10,7 @@ ghost use Rattle.error_codes.specs.Errors.{className};
 ghost use Rattle.report.specs.Text.{longest, bytesOf};
 ghost use Rattle.report.specs.Scaffolding.{Adds};
 ghost use Rattle.report.specs.Report.{line, lines, paidPart, unpaidPart, sumsLine, lastName, errorLine, typeLine, typeLines, cassetteLines, goodLines, badLine, reportText, reportOf};
-use dispenser_rules::Account;
+use dispenser_rules::Cassettes;
 use dispenser_rules::LastError;
 use dispenser_rules::LastErrors;
 use error_codes::ErrorClass;
@@ -191,13 +191,13 @@ fn put_types(bills: [Bills; 24], text: &mut [u8], at: usize) -> usize
 }
 
 // Adds the lines of the cassettes.
-fn put_cassettes(account: Account, errors: LastErrors, text: &mut [u8]) -> usize
+fn put_cassettes(cassettes: Cassettes, errors: LastErrors, text: &mut [u8]) -> usize
     requires { ⌜ longest ≤ length (now text) ⌝ }
-    ensures { λ r. ⌜ Adds (now (text .entry)) 0 (lines (cassetteLines account errors)) (now (text .exit)) r ⌝ }
+    ensures { λ r. ⌜ Adds (now (text .entry)) 0 (lines (cassetteLines cassettes errors)) (now (text .exit)) r ⌝ }
     ensures { λ r. ⌜ r ≤ 356 ⌝ }
 {
-    let upper = account.upper;
-    let lower = account.lower;
+    let upper = cassettes.upper;
+    let lower = cassettes.lower;
     let upper_error = errors.upper;
     let lower_error = errors.lower;
     let a = put_sums(b"upper", upper, text, 0);
@@ -208,7 +208,7 @@ fn put_cassettes(account: Account, errors: LastErrors, text: &mut [u8]) -> usize
 
 // Adds the report of a good recording.
 fn put_good(
-    account: Account,
+    cassettes: Cassettes,
     errors: LastErrors,
     bills: [Bills; 24],
     declined: u32,
@@ -216,10 +216,10 @@ fn put_good(
     text: &mut [u8],
 ) -> usize
     requires { ⌜ longest ≤ length (now text) ⌝ }
-    ensures { λ r. ⌜ Adds (now (text .entry)) 0 (lines (goodLines account errors bills declined records)) (now (text .exit)) r ⌝ }
+    ensures { λ r. ⌜ Adds (now (text .entry)) 0 (lines (goodLines cassettes errors bills declined records)) (now (text .exit)) r ⌝ }
     ensures { λ r. ⌜ r ≤ longest ⌝ }
 {
-    let a = put_cassettes(account, errors, text);
+    let a = put_cassettes(cassettes, errors, text);
     let b = put_line(b"declined ", declined, text, a);
     let c = put_types(bills, text, b);
     put_line(b"records ", records, text, c)
@@ -242,11 +242,12 @@ fn put_report(f: Findings, text: &mut [u8]) -> usize
     ensures { λ r. ⌜ r ≤ longest ⌝ }
 {
     let account = f.account;
+    let cassettes = account.cassettes;
     let errors = f.errors;
     let bills = f.bills;
     let ending = f.ending;
     match ending {
-        Ending::Good => put_good(account, errors, bills, f.declined, f.records, text),
+        Ending::Good => put_good(cassettes, errors, bills, f.declined, f.records, text),
         Ending::Bad(why, at) => put_bad(why, at, text),
     }
 }

@@ -141,10 +141,10 @@ module _ {M : Type 1} (𝓤 : URA M) (H : Heap 𝓤) (A : Atoms 𝓤) (W : Given
         move ! (1 ∷ []) $ drop ! $ move ! (1 ∷ []) $ drop ! $ move ! (1 ∷ []) $ drop ! $ move ! (1 ∷ []) $ split ! $ move ! (1 ∷ []) $
         -- [the outcome; the token; the room's last list; the cell at 3; what the old session owns; the open borrow; obs; auth; the locals, the last at 8]
         peeks ! O.the-row (Is O.the-row) (shows 𝓤 H A O.the-row) r (v ∷ []) (λ is.
-        land ! (from ! (stop !)) (init ! 14 refl (outcome-typed 𝓤 H A W r v is)) $
+        land ! {sp = (O′.mir, l4, 0)} (from ! (stop !)) (init ! 14 {τ = O′.mir} {b = l4} {o = 0} {v = v} refl (outcome-typed 𝓤 H A W r v is)) $
         rewrite ! 14 (λ (w : Val). ‵ (fat fullShare O′.mir l4 0 w)) (outcome-tells r v is) refl $
         assigns ! (of-opd ! (load ! {sp = (T′.mir, l4, 0)} (from ! (fld ! {τ = T′.mir} {d = 0} refl (stop !))) (look-in ! 14 {τ = T′.mir} {v = session-val (r .session)} (sub ! {τs = outcome-fields} 0 {τ = T′.mir} {d = 0} refl (whole ! {τ = O′.mir}))))) (from ! (hop ! (look ! 20 refl) (stop !))) (store-raw ! 3 {τ = T′.mir} refl (session-typed 𝓤 H A W (r .session) (session-is r v is))) $
-        assigns ! (of-opd ! (load ! {sp = (R′.mir, l4, reply-place)} (from ! (fld ! {τ = R′.mir} {d = reply-place} refl (stop !))) (look-in ! 14 {τ = R′.mir} {v = reply-val (r .reply)} (sub ! {τs = outcome-fields} 1 {τ = R′.mir} {d = reply-place} refl (whole ! {τ = O′.mir}))))) (from ! (stop !)) (init ! 22 refl (reply-typed 𝓤 H A W (r .reply) (reply-is r v is))) $
+        assigns ! (of-opd ! (load ! {sp = (R′.mir, l4, reply-place)} (from ! (fld ! {τ = R′.mir} {d = reply-place} refl (stop !))) (look-in ! 14 {τ = R′.mir} {v = reply-val (r .reply)} (sub ! {τs = outcome-fields} 1 {τ = R′.mir} {d = reply-place} refl (whole ! {τ = O′.mir}))))) (from ! (stop !)) (init ! 22 {τ = R′.mir} {b = l0} {o = 0} {v = reply-val (r .reply)} refl (reply-typed 𝓤 H A W (r .reply) (reply-is r v is))) $
         move ! (4 ∷ []) $ drop ! $ owned ! T.the-row (Is T.the-row) (LL.makes T.the-type T′.the-plain 𝓤 H A) (r .session) _ (session-is r v is) $ move ! (4 ∷ 0 ∷ 5 ∷ 6 ∷ 7 ∷ []) $
         closes ! tt T.the-row (r .session) (vals (r .session)) b o $
         -- [obs; the borrow; its token; the outcome; the room's token; the room's last list; the locals, the last at 6]

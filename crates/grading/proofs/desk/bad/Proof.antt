@@ -1,5 +1,4 @@
 -- `grading::desk::bad` meets its contract. Assumes nothing.
-use Rattle.dispenser_rules.specs.Session.{freshSession}
 use borrow.Author.Needs.{needs}
 use Rattle.grading.proofs.desk.bad.Statement.{statement}
 use Rattle.grading.proofs.desk.bad.Tie as tie
@@ -11,8 +10,7 @@ fresh-requires-2 : tie.Need-fresh-requires-2
 fresh-requires-2 c κs = search needs
 
 returns : tie.Need-returns
-unfolding freshSession
-returns c = simp (c .before .before .fresh .ensures, c .fresh2 .ensures)
+returns c = simp (c .before .fresh .ensures, c .fresh2 .ensures)
 
 pub bad-spec : {M : Type 1} → statement M
 bad-spec = tie.close (tie.spec fresh-requires fresh-requires-2 returns)

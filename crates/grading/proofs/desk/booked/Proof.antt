@@ -12,6 +12,9 @@ enum-known-entry c = search needs
 erred-requires : tie.Need-erred-requires
 erred-requires c κs = search needs
 
+advance-requires : tie.Need-advance-requires
+advance-requires c κs = search needs
+
 booked-request-requires : tie.Need-booked-request-requires
 booked-request-requires c κs = search needs
 
@@ -28,7 +31,7 @@ returns : tie.Need-returns
 returns c = search needs
 
 returns-2 : tie.Need-returns-2
-returns-2 c = rw (c .before .before .before .entry .given .1, c .booked-request .ensures, c .before .erred .ensures)
+returns-2 c = rw (c .before .before .before .before .entry .given .1, c .booked-request .ensures, c .before .advance .ensures, c .before .before .erred .ensures)
 
 returns-3 : tie.Need-returns-3
 returns-3 c = rw (c .before .before .before .entry2 .given .1, c .booked .ensures, c .before .erred2 .ensures)
@@ -40,6 +43,7 @@ booked-spec =
     enum-told
     enum-known-entry
     erred-requires
+    advance-requires
     booked-request-requires
     enum-known-entry-2
     erred-requires-2

@@ -1,6 +1,7 @@
 -- `grading::desk::cleared` meets its contract. Assumes nothing.
 use Rattle.dispenser_rules.specs.Session.{sessionClear}
 use Rattle.validator_rules.specs.Bills.{bookedBy}
+use Rattle.grading.specs.Scaffolding.{entered}
 use borrow.Author.Needs.{needs}
 use Rattle.grading.proofs.desk.cleared.Statement.{statement}
 use Rattle.grading.proofs.desk.cleared.Tie as tie
@@ -21,7 +22,7 @@ assembled-requires : tie.Need-assembled-requires
 assembled-requires c κs = search needs
 
 returns : tie.Need-returns
-unfolding sessionClear bookedBy
+unfolding sessionClear bookedBy entered
 returns c = λ a bs store store255 room room255. simp (c .assembled .ensures, c .before .before .counted .ensures, c .before .before .before .payer-declines .ensures, c .before .before .before .before .before .step-clear .ensures)
 
 pub cleared-spec : {M : Type 1} → statement M

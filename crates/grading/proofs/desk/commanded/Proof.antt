@@ -1,7 +1,7 @@
 -- `grading::desk::commanded` meets its contract. Assumes nothing.
 use Rattle.validator_rules.specs.Session.{sessionRequest}
 use Rattle.validator_rules.specs.Bills.{bookedBy}
-use Rattle.grading.specs.Scaffolding.{joined}
+use Rattle.grading.specs.Scaffolding.{joined, entered}
 use Rattle.grading.proofs.Steps.{by-request}
 use borrow.Author.Needs.{needs}
 use Rattle.grading.proofs.desk.commanded.Statement.{statement}
@@ -26,7 +26,7 @@ assembled-requires : tie.Need-assembled-requires
 assembled-requires c κs = search needs
 
 returns : tie.Need-returns
-unfolding sessionRequest bookedBy
+unfolding sessionRequest bookedBy entered
 returns c =
     λ a bs store store255 room.
     let args = c .before .before .before .before .before .before .before .before .before .before .before .args in

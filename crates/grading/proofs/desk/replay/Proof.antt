@@ -1,26 +1,27 @@
 -- `grading::desk::replay` meets its contract. The invariant: what is left of the recording, replayed from what the loop has, is what the whole
 -- recording leaves; there are no more records than bytes read. Assumes nothing.
 use mathlib.Core.Path.{_≡_, _∙_}
+use mathlib.Core.Logic.{⊎-elim}
 use Prim.Native.Nat.{_-_, _≤_}
 use lib.ListN.{length, drop}
 use Rattle.dispenser_rules.specs.Session.{freshSession}
 use Rattle.validator_rules.specs.Session.{freshSession as freshTaker}
 use Rattle.recording.specs.Reading.{freshReader, readingFrom}
 use Rattle.grading_rules.specs.Replay.{freshDesk, replayed, replayOf}
-use Rattle.grading.specs.Scaffolding.{joined}
-use Rattle.grading.proofs.Loops.{gives, further, breaks, ends, counts, joins, no-bill, long, short}
+use Rattle.grading.specs.Scaffolding.{shelf, joined}
+use Rattle.grading.proofs.Loops.{gives, further, breaks, ends, counts, joins, in-slot, no-slot, shelved, no-bill, long, short}
 use borrow.Author.Needs.{needs}
 use native.Mathlib.Omega.{arith}
 use Rattle.grading.proofs.desk.replay.Statement.{statement}
 use Rattle.grading.proofs.desk.replay.Tie as tie
 
 abbrev Inv-loop : tie.InvT-loop
-Inv-loop recording run₀ books₀ bills₀ store₀ second₀ room₀ wide₀ i₀ run books bills store store255 room room255 i =
+Inv-loop recording run₀ books₀ slots₀ bills₀ store₀ second₀ room₀ wide₀ i₀ run books slots bills store store255 room room255 i =
     (i ≤ length recording) × (length recording ≤ 65_536) × (run .declined ≤ run .records) × (run .records ≤ i)
-    × (replayed (joined run books bills store store255 room room255) (readingFrom freshReader i (drop i recording)) ≡ replayOf recording)
+    × (replayed (joined run (shelf books slots) bills store store255 room room255) (readingFrom freshReader i (drop i recording)) ≡ replayOf recording)
 
 abbrev μ-loop : tie.MeasureT-loop
-μ-loop recording run₀ books₀ bills₀ store₀ second₀ room₀ wide₀ i₀ run books bills store store255 room room255 i = length recording - i
+μ-loop recording run₀ books₀ slots₀ bills₀ store₀ second₀ room₀ wide₀ i₀ run books slots bills store store255 room room255 i = length recording - i
 
 bad-requires : tie.Need-bad-requires Inv-loop μ-loop
 bad-requires c κs = search needs
@@ -40,12 +41,12 @@ fresh-requires-3 c κs = search needs
 loop-holds : tie.Need-loop-holds Inv-loop μ-loop
 unfolding freshDesk freshSession freshTaker
 loop-holds c =
-    let h = c .before .before .before .before .before .before .before .before .before .before .if1 .left in (
+    let h = c .before .before .before .before .before .before .before .before .before .before .before .before .before .before .if1 .left in (
       search needs,
       omega (arith, h),
       search needs,
       search needs,
-      simp (c .before .before .before .before .before .before .before .before .before .fresh .ensures, c .before .before .before .before .before .before .before .before .fresh2 .ensures, c .before .before .before .fresh3 .ensures) (short _ (omega (arith, h))),
+      simp (c .before .before .before .before .before .before .before .before .before .before .before .before .before .fresh .ensures, c .before .before .before .before .before .before .before .before .before .before .before .before .fresh2 .ensures, c .before .before .before .before .fresh3 .ensures) (short _ (omega (arith, h))),
     )
 
 record-at-requires : tie.Need-record-at-requires Inv-loop μ-loop
@@ -80,57 +81,74 @@ step-requires c κs = let turn = c .before .before .before .before .before .befo
 booked-requires : tie.Need-booked-requires Inv-loop μ-loop
 booked-requires c κs = search needs
 
+written-requires : tie.Need-written-requires Inv-loop μ-loop
+written-requires c κs = search needs
+
+mul-slots : tie.Need-mul-slots Inv-loop μ-loop
+mul-slots c = search needs
+
+array-set-from-slots : tie.Need-array-set-from-slots Inv-loop μ-loop
+array-set-from-slots c = search needs
+
 booked-requires-2 : tie.Need-booked-requires-2 Inv-loop μ-loop
 booked-requires-2 c κs = search needs
 
 loop-less : tie.Need-loop-less Inv-loop μ-loop
 loop-less c =
-    let turn = c .before .before .before .before .before .before .before .before .before .before .before .before .before .before .before .loop in
-    let f = further _ (turn .i) (c .before .before .before .before .before .before .before .before .before .before .before .before .before .before .loop-test .taken) (c .before .before .before .before .before .before .before .before .before .before .before .before .before .record-at .result) (c .before .before .before .before .before .before .before .before .before .before .before .before .before .record-at .ensures) _ _ (c .before .before .before .before .before .before .before .before .before .before .before .found2 .given .1) in
+    let turn = c .before .before .before .before .before .before .before .before .before .before .before .before .before .before .before .before .before .before .before .before .loop in
+    let f = further _ (turn .i) (c .before .before .before .before .before .before .before .before .before .before .before .before .before .before .before .before .before .before .before .loop-test .taken) (c .before .before .before .before .before .before .before .before .before .before .before .before .before .before .before .before .before .before .record-at .result) (c .before .before .before .before .before .before .before .before .before .before .before .before .before .before .before .before .before .before .record-at .ensures) _ _ (c .before .before .before .before .before .before .before .before .before .before .before .before .before .before .before .before .found2 .given .1) in
     omega (arith, f .0, f .1)
 
 loop-again : tie.Need-loop-again Inv-loop μ-loop
 loop-again c =
-    let turn = c .before .before .before .before .before .before .before .before .before .before .before .before .before .before .before .loop in
+    let turn = c .before .before .before .before .before .before .before .before .before .before .before .before .before .before .before .before .before .before .before .before .loop in
     let inv = turn .inv in
-    let h = c .before .before .before .before .before .before .before .before .before .before .before .before .before .before .loop-test .taken in
-    let g = c .before .before .before .before .before .step .ensures (turn .books) (turn .bills) in
-    let d = joined (turn .run) (turn .books) (turn .bills) (turn .store) (turn .store255) (turn .room) (turn .room255) in
-    let x = c .before .before .before .before .before .before .before .before .before .before .before .found2 .given .0 .0 in
-    let size = c .before .before .before .before .before .before .before .before .before .before .before .found2 .given .0 .1 .0 in
-    let told = c .before .before .before .before .before .before .before .before .before .before .before .found2 .given .1 in
-    let f = further _ (turn .i) h (c .before .before .before .before .before .before .before .before .before .before .before .before .before .record-at .result) (c .before .before .before .before .before .before .before .before .before .before .before .before .before .record-at .ensures) x size told in
+    let h = c .before .before .before .before .before .before .before .before .before .before .before .before .before .before .before .before .before .before .before .loop-test .taken in
+    let moved = c .before .before .before .before .before .before .before .before .before .before .step .result in
+    let g = c .before .before .before .before .before .before .before .before .before .before .step .ensures (shelf (turn .books) (turn .slots)) (turn .bills) in
+    let d = joined (turn .run) (shelf (turn .books) (turn .slots)) (turn .bills) (turn .store) (turn .store255) (turn .room) (turn .room255) in
+    let x = c .before .before .before .before .before .before .before .before .before .before .before .before .before .before .before .before .found2 .given .0 .0 in
+    let size = c .before .before .before .before .before .before .before .before .before .before .before .before .before .before .before .before .found2 .given .0 .1 .0 in
+    let told = c .before .before .before .before .before .before .before .before .before .before .before .before .before .before .before .before .found2 .given .1 in
+    let noted = c .before .before .before .before .written .result in
+    let kept = ⊎-elim (λ w. w .1 ∙ in-slot (turn .slots) noted (w .0 .taken)) (λ w. w .1 ∙ no-slot (turn .slots) noted (w .0 .left)) (c .before .before .if2 .came) in
+    let on = shelved (turn .books) (c .before .before .before .before .before .before .before .booked .result) (turn .slots) (c .before .before .if2 .slots) (moved .run .asked) (moved .run .payer .handed) (moved .entry) noted (c .before .before .before .before .before .before .before .booked .ensures) (c .before .before .before .before .written .ensures) kept in
+    let f = further _ (turn .i) h (c .before .before .before .before .before .before .before .before .before .before .before .before .before .before .before .before .before .before .record-at .result) (c .before .before .before .before .before .before .before .before .before .before .before .before .before .before .before .before .before .before .record-at .ensures) x size told in
     let n = counts d _ x g in (
       f .1,
       inv .1,
       omega (arith, inv .2, n .0, n .1),
       omega (arith, f .0, inv .3, n .0),
-      gives _ (turn .i) h (c .before .before .before .before .before .before .before .before .before .before .before .before .before .record-at .result) (c .before .before .before .before .before .before .before .before .before .before .before .before .before .record-at .ensures) d _ x size told (joins _ _ _ _ _ (c .before .before .booked .ensures) (c .booked2 .ensures) ∙ g) (inv .4),
+      gives _ (turn .i) h (c .before .before .before .before .before .before .before .before .before .before .before .before .before .before .before .before .before .before .record-at .result) (c .before .before .before .before .before .before .before .before .before .before .before .before .before .before .before .before .before .before .record-at .ensures) d _ x size told (joins _ _ _ _ _ on (c .booked2 .ensures) ∙ g) (inv .4),
     )
 
 loop-less-2 : tie.Need-loop-less-2 Inv-loop μ-loop
 loop-less-2 c =
-    let turn = c .before .before .before .before .before .before .before .before .before .before .before .before .before .before .loop in
-    let f = further _ (turn .i) (c .before .before .before .before .before .before .before .before .before .before .before .before .before .loop-test .taken) (c .before .before .before .before .before .before .before .before .before .before .before .before .record-at .result) (c .before .before .before .before .before .before .before .before .before .before .before .before .record-at .ensures) _ _ (c .before .before .before .before .before .before .before .before .before .before .found2 .given .1) in
+    let turn = c .before .before .before .before .before .before .before .before .before .before .before .before .before .before .before .before .before .before .before .loop in
+    let f = further _ (turn .i) (c .before .before .before .before .before .before .before .before .before .before .before .before .before .before .before .before .before .before .loop-test .taken) (c .before .before .before .before .before .before .before .before .before .before .before .before .before .before .before .before .before .record-at .result) (c .before .before .before .before .before .before .before .before .before .before .before .before .before .before .before .before .before .record-at .ensures) _ _ (c .before .before .before .before .before .before .before .before .before .before .before .before .before .before .before .found2 .given .1) in
     omega (arith, f .0, f .1)
 
 loop-again-2 : tie.Need-loop-again-2 Inv-loop μ-loop
 loop-again-2 c =
-    let turn = c .before .before .before .before .before .before .before .before .before .before .before .before .before .before .loop in
+    let turn = c .before .before .before .before .before .before .before .before .before .before .before .before .before .before .before .before .before .before .before .loop in
     let inv = turn .inv in
-    let h = c .before .before .before .before .before .before .before .before .before .before .before .before .before .loop-test .taken in
-    let g = c .before .before .before .before .step .ensures (turn .books) (turn .bills) in
-    let d = joined (turn .run) (turn .books) (turn .bills) (turn .store) (turn .store255) (turn .room) (turn .room255) in
-    let x = c .before .before .before .before .before .before .before .before .before .before .found2 .given .0 .0 in
-    let size = c .before .before .before .before .before .before .before .before .before .before .found2 .given .0 .1 .0 in
-    let told = c .before .before .before .before .before .before .before .before .before .before .found2 .given .1 in
-    let f = further _ (turn .i) h (c .before .before .before .before .before .before .before .before .before .before .before .before .record-at .result) (c .before .before .before .before .before .before .before .before .before .before .before .before .record-at .ensures) x size told in
+    let h = c .before .before .before .before .before .before .before .before .before .before .before .before .before .before .before .before .before .before .loop-test .taken in
+    let moved = c .before .before .before .before .before .before .before .before .before .step .result in
+    let g = c .before .before .before .before .before .before .before .before .before .step .ensures (shelf (turn .books) (turn .slots)) (turn .bills) in
+    let d = joined (turn .run) (shelf (turn .books) (turn .slots)) (turn .bills) (turn .store) (turn .store255) (turn .room) (turn .room255) in
+    let x = c .before .before .before .before .before .before .before .before .before .before .before .before .before .before .before .found2 .given .0 .0 in
+    let size = c .before .before .before .before .before .before .before .before .before .before .before .before .before .before .before .found2 .given .0 .1 .0 in
+    let told = c .before .before .before .before .before .before .before .before .before .before .before .before .before .before .before .found2 .given .1 in
+    let noted = c .before .before .before .written .result in
+    let kept = ⊎-elim (λ w. w .1 ∙ in-slot (turn .slots) noted (w .0 .taken)) (λ w. w .1 ∙ no-slot (turn .slots) noted (w .0 .left)) (c .before .if2 .came) in
+    let on = shelved (turn .books) (c .before .before .before .before .before .before .booked .result) (turn .slots) (c .before .if2 .slots) (moved .run .asked) (moved .run .payer .handed) (moved .entry) noted (c .before .before .before .before .before .before .booked .ensures) (c .before .before .before .written .ensures) kept in
+    let f = further _ (turn .i) h (c .before .before .before .before .before .before .before .before .before .before .before .before .before .before .before .before .before .record-at .result) (c .before .before .before .before .before .before .before .before .before .before .before .before .before .before .before .before .before .record-at .ensures) x size told in
     let n = counts d _ x g in (
       f .1,
       inv .1,
       omega (arith, inv .2, n .0, n .1),
       omega (arith, f .0, inv .3, n .0),
-      gives _ (turn .i) h (c .before .before .before .before .before .before .before .before .before .before .before .before .record-at .result) (c .before .before .before .before .before .before .before .before .before .before .before .before .record-at .ensures) d _ x size told (joins _ _ _ _ _ (c .before .booked .ensures) (no-bill _ _ (c .if2 .left)) ∙ g) (inv .4),
+      gives _ (turn .i) h (c .before .before .before .before .before .before .before .before .before .before .before .before .before .before .before .before .before .record-at .result) (c .before .before .before .before .before .before .before .before .before .before .before .before .before .before .before .before .before .record-at .ensures) d _ x size told (joins _ _ _ _ _ on (no-bill _ _ (c .if3 .left)) ∙ g) (inv .4),
     )
 
 cast-declined : tie.Need-cast-declined Inv-loop μ-loop
@@ -141,8 +159,8 @@ cast-records c = let end = c .before .before .before .loop in record { fits = om
 
 returns-3 : tie.Need-returns-3 Inv-loop μ-loop
 returns-3 c =
-    let end = c .before .before .before .before .before .loop in
-    ends _ (end .i) (c .before .before .before .before .loop-test .left) (joined (end .run) (end .books) (end .bills) (end .store) (end .store255) (end .room) (end .room255)) (end .inv .4)
+    let end = c .before .before .before .before .before .before .loop in
+    ends _ (end .i) (c .before .before .before .before .before .loop-test .left) (joined (end .run) (shelf (end .books) (end .slots)) (end .bills) (end .store) (end .store255) (end .room) (end .room255)) (end .inv .4)
 
 pub replay-spec : {M : Type 1} → statement M
 replay-spec =
@@ -165,6 +183,9 @@ replay-spec =
     add-i
     step-requires
     booked-requires
+    written-requires
+    mul-slots
+    array-set-from-slots
     booked-requires-2
     loop-less
     loop-again

@@ -1,6 +1,7 @@
 -- `grading::desk::requested` meets its contract. Assumes nothing.
-use Rattle.dispenser_rules.specs.Session.{sessionRequest}
+use Rattle.dispenser_rules.specs.Session.{sessionRequest, accountAsked}
 use Rattle.validator_rules.specs.Bills.{bookedBy}
+use Rattle.grading.specs.Scaffolding.{entered}
 use borrow.Author.Needs.{needs}
 use Rattle.grading.proofs.desk.requested.Statement.{statement}
 use Rattle.grading.proofs.desk.requested.Tie as tie
@@ -21,7 +22,7 @@ assembled-requires : tie.Need-assembled-requires
 assembled-requires c κs = search needs
 
 returns : tie.Need-returns
-unfolding sessionRequest bookedBy
+unfolding sessionRequest accountAsked bookedBy entered
 returns c = λ a bs store store255 room255. simp (c .assembled .ensures, ← c .before .before .before .before .before .before .step-request .ensures, c .before .before .counted .ensures, c .before .before .before .payer-declines .ensures)
 
 pub requested-spec : {M : Type 1} → statement M

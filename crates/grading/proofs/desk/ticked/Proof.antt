@@ -1,8 +1,8 @@
 -- `grading::desk::ticked` meets its contract. Assumes nothing.
-use Rattle.dispenser_rules.specs.Session.{sessionTick}
+use Rattle.dispenser_rules.specs.Session.{sessionTick, accountHeard}
 use Rattle.validator_rules.specs.Session.{sessionTick as takerTick}
+use Rattle.grading.proofs.Steps.{by-tick, entered-heard}
 use Rattle.grading.specs.Scaffolding.{joined}
-use Rattle.grading.proofs.Steps.{by-tick}
 use borrow.Author.Needs.{needs}
 use native.Mathlib.Omega.{arith}
 use Rattle.grading.proofs.desk.ticked.Statement.{statement}
@@ -36,11 +36,12 @@ assembled-requires : tie.Need-assembled-requires
 assembled-requires c κs = search needs
 
 returns : tie.Need-returns
-unfolding sessionTick takerTick
+unfolding sessionTick accountHeard takerTick
 returns c =
     λ a bs store.
     let args = c .before .before .before .before .before .before .before .before .before .before .before .before .before .before .before .before .before .args in
-    simp (c .assembled .ensures, c .before .heard .ensures a (args .run .asked), c .before .before .before .counted .ensures, c .before .before .before .before .either .ensures, c .before .before .before .before .before .taker-declines .ensures, c .before .before .before .before .before .before .payer-declines .ensures)
+    let e = c .before .heard .ensures a (args .run .asked) (c .before .before .before .before .before .before .before .before .before .before .before .before .step-tick .result .line .handed) in
+    simp (c .assembled .ensures, e, entered-heard a (args .run .asked) (c .before .before .before .before .before .before .before .before .before .before .before .before .step-tick .result .line .handed) (c .before .before .before .before .before .before .before .before .before .before .before .before .step-tick .result .reply), c .before .before .before .counted .ensures, c .before .before .before .before .either .ensures, c .before .before .before .before .before .taker-declines .ensures, c .before .before .before .before .before .before .payer-declines .ensures)
     (by-tick (joined (args .run) a bs store (args .store255 .now) (args .room .now) (args .room255 .now)) (c .before .before .before .before .before .before .before .before .before .before .before .before .step-tick .ensures) (c .before .before .before .before .before .before .before .before .step-tick2 .ensures))
 
 pub ticked-spec : {M : Type 1} → statement M

@@ -1,6 +1,6 @@
 -- `grading::desk::validator_byte` meets its contract. Assumes nothing.
 use Rattle.validator_rules.specs.Session.{sessionByte}
-use Rattle.grading.specs.Scaffolding.{joined}
+use Rattle.grading.specs.Scaffolding.{joined, entered}
 use Rattle.grading.proofs.Steps.{by-byte}
 use borrow.Author.Needs.{needs}
 use Rattle.grading.proofs.desk.validator_byte.Statement.{statement}
@@ -22,7 +22,7 @@ assembled-requires : tie.Need-assembled-requires
 assembled-requires c κs = search needs
 
 returns : tie.Need-returns
-unfolding sessionByte
+unfolding sessionByte entered
 returns c =
     λ a bs store room.
     let args = c .before .before .before .before .before .before .before .before .before .before .before .args in

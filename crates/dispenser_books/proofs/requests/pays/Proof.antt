@@ -1,9 +1,9 @@
--- `dispenser::session::pays` meets its contract. Assumes nothing.
+-- `dispenser_books::requests::pays` meets its contract. Assumes nothing.
 use Rattle.refusals.proofs.Rules.{tests}
 use Rattle.dispenser_rules.specs.Session.{pays}
 use borrow.Author.Needs.{needs}
-use Rattle.dispenser.proofs.session.pays.Statement.{statement}
-use Rattle.dispenser.proofs.session.pays.Tie as tie
+use Rattle.dispenser_books.proofs.requests.pays.Statement.{statement}
+use Rattle.dispenser_books.proofs.requests.pays.Tie as tie
 
 returns : tie.Need-returns
 unfolding pays
