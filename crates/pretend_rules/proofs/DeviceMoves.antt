@@ -9,10 +9,10 @@ use native.Mathlib.Omega.{arith}
 use lib.ListN.{length, take, set, getD, length-append, length-set}
 use lib.Seq.{length-take-le, take-suc-set, getD-at}
 use Rattle.refusals.specs.Rules.{says, under, atMost, same}
-use Rattle.refusals.proofs.Rules.{pick, either-way, by-cases, certain, cond-true, none-judged, holds-true, fails-false}
+use Rattle.refusals.proofs.Rules.{pick, either-way, by-cases, certain, none-judged, holds-true, fails-false}
 use Rattle.refusals.proofs.Writing.{take-over}
-use Rattle.xor_frame.specs.Frame.{lengthWith}
-use Rattle.dispenser_frame_rules.specs.Table.{known, commandLength}
+use Rattle.xor_frame.proofs.Lengths.{length-known}
+use Rattle.dispenser_frame_rules.specs.Table.{known, commandFields, commandLength}
 use Rattle.dispenser_frame_rules.specs.Command.{sendable, readCommand}
 use Rattle.dispenser_frame_rules.specs.Answer.{answerFits, answerFrame}
 use Rattle.dispenser_frame_rules.specs.declared.answer.Answer.{Answer}
@@ -233,10 +233,9 @@ module _ (b : Bench) (k : Together b) (x : ℕ) (rest r : List ℕ) (e : b .to-d
     known-code = op .sent .0
 
     size : length (asking (b .host .asked)) ≡ commandLength (b .host .asked .code)
-    unfolding lengthWith
     size =
         command-length (b .host .asked .code) (b .host .asked .upper) (b .host .asked .lower) (op .sent)
-        ∙ sym (cond-true _ _ (holds-true (known (b .host .asked .code)) known-code))
+        ∙ sym (length-known known commandFields (b .host .asked .code) (holds-true (known (b .host .asked .code)) known-code))
 
     ten : commandLength (b .host .asked .code) ≤ 10
     ten = command-longest (b .host .asked .code)

@@ -16,8 +16,7 @@ use Rattle.refusals.specs.declared.Declined.{Declined}
 use Rattle.refusals.specs.declared.Declined.the-variants.{Range, Unawaited}
 use Rattle.refusals.proofs.Rules.{pick, either-way, by-cases, certain, holds-true, fails-false, cond-true, cond-false, Alike}
 use Rattle.refusals.proofs.Writing.{over-last, take-over}
-use Rattle.xor_frame.specs.Layout.{sizes}
-use Rattle.xor_frame.specs.Frame.{lengthWith}
+use Rattle.xor_frame.proofs.Lengths.{length-known}
 use Rattle.dispenser_frame_rules.specs.Table.{known, commandFields, commandLength}
 use Rattle.dispenser_frame_rules.specs.Command.{readCommand}
 use Rattle.dispenser_frame_rules.specs.Answer.{answerFits, answerFrame}
@@ -494,7 +493,7 @@ module _ (d : Device) (h : History) (t : Tracks d h) where
 
       -- "an unknown code at once"
       code-hears : got ≡ codePlace → Hears (codeByte (d .wire) (codePlace + 1) b)
-      unfolding codeByte lengthWith
+      unfolding codeByte
       code-hears three =
           let four : length f+ ≡ 4 = size ∙ ap (λ (i : ℕ). i + 1) three in
           let is : getD f+ codePlace 0 ≡ b = ap (λ (l : List ℕ). getD l codePlace 0) kept ∙ getD-at f b [] 0 codePlace (x .many ∙ three) in
@@ -503,7 +502,7 @@ module _ (d : Device) (h : History) (t : Tracks d h) where
           pick Hears (known b) _ _
           (λ g.
           let k = holds-true (known b) g in
-          let six : 6 ≤ commandLength b = omega (arith, cond-true (6 + sizes (commandFields b)) 0 k) in
+          let six : 6 ≤ commandLength b = omega (arith, length-known known commandFields b k) in
           reads-next (codePlace + 1) (commandLength b) (ap (λ (i : ℕ). i + 1) (sym three)) (omega (arith, six)) (ap commandLength (sym is4))
           (λ l. ap (λ (c : ℕ). known c .test) is4 ∙ k)
           (due-known (omega (arith, four)) b is k ∙ cond-true _ _ (holds-true (under (length f+) (commandLength b)) (omega (arith, four, six)))))
