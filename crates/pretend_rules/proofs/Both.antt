@@ -18,7 +18,7 @@ use Rattle.pretend_rules.specs.Histories.{hostHears, deviceHears, hostCa
 use Rattle.pretend_rules.specs.declared.tally.Tallies.{Tallies}
 use Rattle.pretend_rules.specs.declared.device.Device.{Device}
 use Rattle.pretend_rules.proofs.Agreement.{agreement}
-use Rattle.pretend_rules.proofs.Own.{own-account}
+use Rattle.pretend_rules.proofs.Account.{own-account}
 
 -- ---- the calls of a run lead each end where the run does
 

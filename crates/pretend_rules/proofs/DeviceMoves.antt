@@ -28,7 +28,7 @@ use Rattle.dispenser_rules.specs.Unit.{unit, request-of}
 use Rattle.pretend_rules.specs.Limits.{codePlace, answerLimit}
 use Rattle.pretend_rules.specs.Wire.{turn, hearing, reading, sent, waits, isAwaiting, idleByte, codeByte, lastByte, commandByte, answerByte, heardIn, heard, expiredIn, expired, passed}
 use Rattle.pretend_rules.specs.Tally.{told}
-use Rattle.pretend_rules.specs.Device.{StepAfter, ByteAfter, stepAfter, byteAfter, doneAfter, refusedStep, send, acted, judgedStep, judgeStep, byteActed, byteRefusals, tickRefusals, tellRefusals, byteStep, tickStep, tellStep, suits, codeBy, answerBy, talliedBy, deviceByte, deviceTick, deviceTell}
+use Rattle.pretend_rules.specs.Device.{StepAfter, ByteAfter, stepAfter, byteAfter, doneAfter, refusedStep, send, acted, judgedStep, judgeStep, byteActed, byteRefusals, tickRefusals, tellRefusals, byteStep, tickStep, tellStep, suits, byByte, byTick, byTelling, deviceByte, deviceTick, deviceTell}
 use Rattle.pretend_rules.specs.Calls.{returned}
 use Rattle.pretend_rules.specs.Bench.{Bench, tells, device-waits, deviceCalled, deviceHeard, moved, DeviceInTime}
 use Rattle.pretend_rules.specs.declared.wire.Stand.{Stand}
@@ -64,13 +64,7 @@ in-time w ms h =
 module _ (b : Bench) (j : JointOf b) where
   -- the device after a step that a tick makes
   abbrev ticked : StepAfter → Bench
-  ticked w =
-      deviceCalled b
-      (record {
-        session = record { wire = w .wire; code = b .device .code; answer = b .device .answer; tallies = b .device .tallies; store = b .device .store };
-        reply = w .reply;
-        room = w .room;
-      })
+  ticked w = deviceCalled b (byTick (b .device) w)
 
   pub device-waits-joint : (ms : ℕ) (r : List ℕ)
       → (IsDone (returned (deviceTick (b .device) ms r .reply)) → DeviceInTime (b .device .wire .stand) (b .device .wire .left) ms)
@@ -93,13 +87,7 @@ sent-put a r h long = ap (λ v. take (v .put) (v .room)) (sent-laid a r h long) 
 module _ (b : Bench) (j : JointOf b) (a : Answer) (r : List ℕ) where
   -- the device after what telling makes
   abbrev toldBy : StepAfter → Bench
-  toldBy w =
-      deviceCalled b
-      (record {
-        session = record { wire = w .wire; code = b .device .code; answer = answerBy (b .device .answer) a (w .reply); tallies = talliedBy (b .device .tallies) a (w .reply); store = b .device .store };
-        reply = w .reply;
-        room = w .room;
-      })
+  toldBy w = deviceCalled b (byTelling (b .device) a w)
 
   abbrev sends : StepAfter
   sends = doneAfter (sent (b .device .wire) 1) (send a r .put) NoHappening (send a r .room)
@@ -151,13 +139,7 @@ due-late got code h = rw (fails-false (under got 4) (λ g. omega arith))
 module _ (b : Bench) (k : Together b) (x : ℕ) (rest r : List ℕ) (e : b .to-device ≡ x ∷ rest) (long : 21 ≤ length r) where
   -- the device after what a byte makes
   abbrev heardBy : ByteAfter → Bench
-  heardBy w =
-      deviceCalled (record { host = b .host; device = b .device; to-device = rest; to-host = b .to-host })
-      (record {
-        session = record { wire = w .step .wire; code = codeBy (b .device .code) (w .step .reply); answer = b .device .answer; tallies = b .device .tallies; store = w .store };
-        reply = w .step .reply;
-        room = w .step .room;
-      })
+  heardBy w = deviceCalled (record { host = b .host; device = b .device; to-device = rest; to-host = b .to-host }) (byByte (b .device) w)
 
   abbrev Hears : Hearing → Type 0
   Hears u = JointOf (heardBy (byteActed (u .heard) (u .wire) (b .device .answer) (b .device .store) (b .device .wire .gathered) x r))

@@ -14,7 +14,7 @@ use Rattle.ledger.specs.Calls.{IsDone}
 use Rattle.ledger.proofs.Declining.{told-apart, rising, given-exactly}
 use Rattle.pretend_rules.specs.Limits.{answerLimit}
 use Rattle.pretend_rules.specs.Wire.{heard, passed}
-use Rattle.pretend_rules.specs.Device.{StepAfter, stepAfter, byteAfter, refusedStep, acted, judgedStep, judgeStep, byteActed, byteRefusals, tickRefusals, tellRefusals, byteStep, tickStep, tellStep, codeBy, answerBy, talliedBy, deviceByte, deviceTick, deviceTell}
+use Rattle.pretend_rules.specs.Device.{StepAfter, stepAfter, byteAfter, refusedStep, acted, judgedStep, judgeStep, byteActed, byteRefusals, tickRefusals, tellRefusals, byteStep, tickStep, tellStep, byByte, byTick, byTelling, deviceByte, deviceTick, deviceTell}
 use Rattle.pretend_rules.specs.Calls.{returned}
 use Rattle.pretend_rules.specs.Promises.{ExactlyWhen}
 use Rattle.pretend_rules.specs.declared.wire.Wire.{Wire}
@@ -61,15 +61,15 @@ exactly-when =
       byte = λ d b r.
           let t = heard (d .wire) b in
           given-exactly told-apart (λ why. byteAfter (refusedStep (d .wire) why) (d .store) r) _
-          (λ w. record { session = record { wire = w .step .wire; code = codeBy (d .code) (w .step .reply); answer = d .answer; tallies = d .tallies; store = w .store }; reply = w .step .reply; room = w .step .room })
+          (byByte d)
           (byte-rises r) (λ why. refl) (λ why. refl) (byte-told (t .heard) (t .wire) (d .answer) (d .store) (d .wire .gathered) b r);
       tick = λ d ms r.
           let t = passed (d .wire) ms in
           given-exactly told-apart (λ why. stepAfter (refusedStep (d .wire) why) r) _
-          (λ w. record { session = record { wire = w .wire; code = d .code; answer = d .answer; tallies = d .tallies; store = d .store }; reply = w .reply; room = w .room })
+          (byTick d)
           (tick-rises ms r) (λ why. refl) (λ why. refl) (acted-told (t .act) (t .wire) (d .answer) r);
       tell = λ d a r.
           given-exactly told-apart (λ why. stepAfter (refusedStep (d .wire) why) r) _
-          (λ w. record { session = record { wire = w .wire; code = d .code; answer = answerBy (d .answer) a (w .reply); tallies = talliedBy (d .tallies) a (w .reply); store = d .store }; reply = w .reply; room = w .room })
+          (byTelling d a)
           (tell-rises (d .wire) (d .code) a r) (λ why. refl) (λ why. refl) (_, (_, refl));
     }

@@ -1,11 +1,11 @@
 pub mod Exact
 pub mod Sending
+pub mod Account
+pub mod Told
 pub mod Together
 pub mod HostMoves
 pub mod DeviceMoves
 pub mod Agreement
-pub mod Own
-pub mod Told
 pub mod Both
 pub mod Working
 pub mod Straying

@@ -33,7 +33,7 @@ use Rattle.ledger.proofs.Waiting.{start-next, start-more, some-long}
 use Rattle.ledger.proofs.Declining.{rising, given-alike}
 use Rattle.pretend_rules.specs.Limits.{commandWait, silence, sendingLimit, answerLimit, codePlace}
 use Rattle.pretend_rules.specs.Wire.{idle, awaiting, sent, waits, isAwaiting, idleByte, codeByte, lastByte, commandByte, again, answerByte, heardIn, heard, expiredIn, expired, passed, does}
-use Rattle.pretend_rules.specs.Device.{StepAfter, ByteAfter, After, stepAfter, byteAfter, doneAfter, refusedStep, send, acted, judgedStep, judgeStep, byteActed, byteRefusals, tickRefusals, tellRefusals, byteStep, tickStep, tellStep, suits, codeBy, answerBy, talliedBy, freshDevice, deviceByte, deviceTick, deviceTell}
+use Rattle.pretend_rules.specs.Device.{StepAfter, ByteAfter, After, stepAfter, byteAfter, doneAfter, refusedStep, send, acted, judgedStep, judgeStep, byteActed, byteRefusals, tickRefusals, tellRefusals, byteStep, tickStep, tellStep, suits, talliedBy, byByte, byTick, byTelling, freshDevice, deviceByte, deviceTick, deviceTell}
 use Rattle.pretend_rules.specs.Calls.{Call, byte, tick, tell, called, lent, deed, returned, ending, host, History, history, ended, took}
 use Rattle.pretend_rules.specs.History.{Place, free, awaits, sends, place, come, begun, answered, sendings, turns, placeBy, Due, due, nothing, nak, dueFull, dueCommand, dueAgain, dueByte, dueTick, dueBy, Answers, ToldByHistory, isAwaited, misfits, historyRefusals, DeclinesByHistory}
 use Rattle.pretend_rules.specs.declared.wire.Stand.{Stand}
@@ -54,42 +54,49 @@ use Rattle.pretend_rules.proofs.Together.{due as dueBytes}
 -- ---- where the device stands, by its history
 
 -- nothing begun
-record Rests (w : Wire) (h : History) : Type 0 where
-  where-at : place h ≡ free
-  unbegun : begun h ≡ []
-  none : w .gathered ≡ 0
+pub record Rests (w : Wire) (h : History) : Type 0 where
+  pub where-at : place h ≡ free
+  pub unbegun : begun h ≡ []
+  pub none : w .gathered ≡ 0
 
 -- inside a command: f is what has come of it
-record Reads (w : Wire) (f : List ℕ) (h : History) : Type 0 where
-  where-at : place h ≡ free
-  came : begun h ≡ f
-  many : length f ≡ w .gathered
-  least : 1 ≤ w .gathered
-  few : w .gathered < w .span
-  spans : w .span ≡ dueBytes (w .gathered) (getD f codePlace 0)
-  listed : 4 ≤ w .gathered → known (getD f codePlace 0) .test ≡ true
-  wait : w .left ≡ commandWait - waited turns h
+pub record Reads (w : Wire) (f : List ℕ) (h : History) : Type 0 where
+  pub where-at : place h ≡ free
+  pub came : begun h ≡ f
+  pub many : length f ≡ w .gathered
+  pub least : 1 ≤ w .gathered
+  pub few : w .gathered < w .span
+  pub spans : w .span ≡ dueBytes (w .gathered) (getD f codePlace 0)
+  pub listed : 4 ≤ w .gathered → known (getD f codePlace 0) .test ≡ true
+  pub wait : w .left ≡ commandWait - waited turns h
 
 -- the answer is sent
-record Sends (w : Wire) (a : Answer) (h : History) : Type 0 where
-  where-at : place h ≡ sends a
-  fits : answerFits a .holds
-  many : sendings h ≡ w .sendings
-  wait : w .left ≡ silence - waited turns h
+pub record Sends (w : Wire) (a : Answer) (h : History) : Type 0 where
+  pub where-at : place h ≡ sends a
+  pub fits : answerFits a .holds
+  pub many : sendings h ≡ w .sendings
+  pub wait : w .left ≡ silence - waited turns h
 
-abbrev At : Stand → Device → History → Type 0
-At Idle d h = Rests (d .wire) h
-At Reading d h = Reads (d .wire) (take (d .wire .gathered) (d .store)) h
-At Awaiting d h = place h ≡ awaits (d .code)
-At Sent d h = Sends (d .wire) (d .answer) h
+-- by its wire, the code and the answer in hand and its store; no account is looked at
+abbrev pub At : Stand → Wire → ℕ → Answer → List ℕ → History → Type 0
+At Idle w code a store h = Rests w h
+At Reading w code a store h = Reads w (take (w .gathered) store) h
+At Awaiting w code a store h = place h ≡ awaits code
+At Sent w code a store h = Sends w a h
 
-record Tracks (d : Device) (h : History) : Type 0 where
-  store : length (d .store) ≡ 10
-  count : answered h ≡ d .wire .answered
-  stands : At (d .wire .stand) d h
+pub record Standing (w : Wire) (code : ℕ) (a : Answer) (kept : List ℕ) (h : History) : Type 0 where
+  pub store : length kept ≡ 10
+  pub count : answered h ≡ w .answered
+  pub stands : At (w .stand) w code a kept h
+
+abbrev pub AtOf : Stand → Device → History → Type 0
+AtOf q d h = At q (d .wire) (d .code) (d .answer) (d .store) h
+
+abbrev pub Tracks : Device → History → Type 0
+Tracks d h = Standing (d .wire) (d .code) (d .answer) (d .store) h
 
 -- a call that is declined is as if it had not been made
-declined-at : (q : Stand) (d : Device) (h : History) → At q d h → At q d (declined ∷ h)
+declined-at : (q : Stand) (d : Device) (h : History) → AtOf q d h → AtOf q d (declined ∷ h)
 unfolding place come begun sendings waited
 declined-at Idle d h x = record { where-at = x .where-at; unbegun = x .unbegun; none = x .none }
 declined-at Reading d h x =
@@ -112,9 +119,8 @@ declined-tracks d h t = record { store = t .store; count = t .count; stands = de
 
 -- ---- what a call answers, and where the device stands after it
 
-record Right (h : History) (e : Deed ⊥ Answer) (r : List ℕ) (w : After) : Type 0 where
-  tells : Answers (dueBy h e) r (returned (w .reply)) (w .room)
-  tracks : Tracks (w .session) (told ending e (returned (w .reply)) (w .room) ∷ h)
+abbrev pub Right : History → Deed ⊥ Answer → List ℕ → After → Type 0
+Right h e r w = Answers (dueBy h e) r (returned (w .reply)) (w .room) × Tracks (w .session) (told ending e (returned (w .reply)) (w .room) ∷ h)
 
 -- the device d, and what is due, as it is put and told
 abbrev left-with : Device → Due → List ℕ → After
@@ -122,11 +128,10 @@ left-with d u r = record { session = d; reply = Done (length (u .put)) (u .what)
 
 right : (h : History) (e : Deed ⊥ Answer) (r : List ℕ) (d : Device) (u : Due) → dueBy h e ≡ u → Tracks d (done e (u .put) (ending (u .what)) ∷ h)
     → Right h e r (left-with d u r)
-right h e r d u i t =
-    record {
-      tells = subst (λ (v : Due). Answers v r (returned (left-with d u r .reply)) (left-with d u r .room)) (sym i) (refl, (refl, refl));
-      tracks = subst (λ (put : List ℕ). Tracks d (done e put (ending (u .what)) ∷ h)) (sym (take-over (u .put) r)) t;
-    }
+right h e r d u i t = (
+  subst (λ (v : Due). Answers v r (returned (left-with d u r .reply)) (left-with d u r .room)) (sym i) (refl, (refl, refl)),
+  subst (λ (put : List ℕ). Tracks d (done e put (ending (u .what)) ∷ h)) (sym (take-over (u .put) r)) t,
+)
 
 -- one byte at the start of a room that is long enough
 one-over : (r : List ℕ) (b : ℕ) → 0 < length r → over (b ∷ []) r ≡ set r 0 b
@@ -280,13 +285,12 @@ module _ (d : Device) (h : History) (t : Tracks d h) where
     -- "sends it again; .. either of those after the third sending, ends it"
     abbrev Turned : List ℕ → Turn → Type 0
     Turned r u =
-        let w = acted (u .act) (u .wire) (d .answer) r in
-        Right h e r (record { session = with-wire (w .wire); reply = w .reply; room = w .room })
+        Right h e r (byTick d (acted (u .act) (u .wire) (d .answer) r))
 
     again-right : (r : List ℕ) → 21 ≤ length r → Sends (d .wire) (d .answer) h → dueBy h e ≡ dueAgain (sendings h) (d .answer) → Turned r (again (d .wire))
     unfolding again over
     again-right r long x i =
-        pick (Turned r) (under (d .wire .sendings) sendingLimit) _ _
+        pick (Turned r) (under (d .wire .sendings) _) _ _
         (λ g.
         let put = sent-laid (d .answer) r (x .fits) long in
         subst (λ v. Right h e r (record { session = with-wire (sent (d .wire) (d .wire .sendings + 1)); reply = Done (v .put) Nothing; room = v .room })) (sym put)
@@ -298,25 +302,16 @@ module _ (d : Device) (h : History) (t : Tracks d h) where
 
   -- ---- a byte
 
-  -- after a call with a byte
-  abbrev byteLeft : ByteAfter → After
-  byteLeft w =
-      record {
-        session = record { wire = w .step .wire; code = codeBy (d .code) (w .step .reply); answer = d .answer; tallies = d .tallies; store = w .store };
-        reply = w .step .reply;
-        room = w .step .room;
-      }
-
   module _ (b : ℕ) (r : List ℕ) (long : 21 ≤ length r) where
     abbrev Hears : Hearing → Type 0
-    Hears u = Right h (hears b) r (byteLeft (byteActed (u .heard) (u .wire) (d .answer) (d .store) (d .wire .gathered) b r))
+    Hears u = Right h (hears b) r (byByte d (byteActed (u .heard) (u .wire) (d .answer) (d .store) (d .wire .gathered) b r))
 
     -- where the exchange is, what is due
     due-at : {p : Place} → place h ≡ p → dueBy h (hears b) ≡ dueByte h p b
     due-at p = ap (λ (p : Place). dueByte h p b) p
 
     -- the same device: nothing comes of the byte
-    ignored : At (d .wire .stand) d (heard-b h b) → dueBy h (hears b) ≡ nothing → Right h (hears b) r (record { session = d; reply = Done 0 Nothing; room = r })
+    ignored : AtOf (d .wire .stand) d (heard-b h b) → dueBy h (hears b) ≡ nothing → Right h (hears b) r (record { session = d; reply = Done 0 Nothing; room = r })
     unfolding over
     ignored x i = right h (hears b) r d nothing i (record { store = t .store; count = count-on h (hears b) [] ∙ t .count; stands = x })
 
@@ -374,7 +369,7 @@ module _ (d : Device) (h : History) (t : Tracks d h) where
         (λ n.
         let none : begun (heard-b h b) ≡ [] = next ∙ cond-false _ _ (fails-false (same b 0x04) n) in
         ignored
-        (subst (λ (q : Stand). At q d (heard-b h b)) (sym q) (record { where-at = place-byte h b ∙ x .where-at; unbegun = none; none = x .none }))
+        (subst (λ (q : Stand). AtOf q d (heard-b h b)) (sym q) (record { where-at = place-byte h b ∙ x .where-at; unbegun = none; none = x .none }))
         (due-read [] (x .where-at) none ∙ few-due (answered h) [] (lit< tt)))
 
     -- 15h is sent, to what has come of a command
@@ -395,7 +390,7 @@ module _ (d : Device) (h : History) (t : Tracks d h) where
           room = room;
         }))
         (one-over r 0x15 (omega (arith, long)))
-        (right h (hears b) r _ nak i (nak-tracks (hears b) (byte-line b) store l p))
+        (right h (hears b) r (record { wire = idle (d .wire); code = d .code; answer = d .answer; tallies = d .tallies; store = store }) nak i (nak-tracks (hears b) (byte-line b) store l p))
 
     -- the further bytes of a command
     module _ (x : Reads (d .wire) (take (d .wire .gathered) (d .store)) h) where
@@ -512,14 +507,14 @@ module _ (d : Device) (h : History) (t : Tracks d h) where
 
       -- the command is full: "answers 06h or 15h"
       abbrev Judged : StepAfter → Type 0
-      Judged w = Right h (hears b) r (byteLeft (record { step = w; store = stored }))
+      Judged w = Right h (hears b) r (byByte d (record { step = w; store = stored }))
 
       takes : (code upper lower : ℕ) → dueBy h (hears b) ≡ due (0x06 ∷ []) (Taken code upper lower)
           → Judged (doneAfter (awaiting (d .wire .answered + 1)) 1 (Taken code upper lower) (set r 0 0x06))
       unfolding place answered
       takes code upper lower i =
           subst (λ (room : List ℕ). Judged (doneAfter (awaiting (d .wire .answered + 1)) 1 (Taken code upper lower) room)) (one-over r 0x06 (omega (arith, long)))
-          (right h (hears b) r _ (due (0x06 ∷ []) (Taken code upper lower)) i
+          (right h (hears b) r (record { wire = awaiting (d .wire .answered + 1); code = code; answer = d .answer; tallies = d .tallies; store = stored }) (due (0x06 ∷ []) (Taken code upper lower)) i
           (record { store = length-set (d .store) got b ∙ t .store; count = ap (λ (n : ℕ). n + 1) (t .count); stands = refl }))
 
       full-hears : (y : CommandRead) → dueBy h (hears b) ≡ dueFull (answered h) y → Judged (judgedStep y (waits (d .wire) (d .wire .left)) r)
@@ -568,7 +563,7 @@ module _ (d : Device) (h : History) (t : Tracks d h) where
         (λ g. sends-again (j ∙ cond-true _ _ (holds-true (same b 0x15) g)))
         (λ m.
         ignored
-        (subst (λ (q : Stand). At q d (heard-b h b)) (sym q)
+        (subst (λ (q : Stand). AtOf q d (heard-b h b)) (sym q)
         (record {
           where-at = place-byte h b ∙ x .where-at;
           fits = x .fits;
@@ -594,10 +589,10 @@ module _ (d : Device) (h : History) (t : Tracks d h) where
     unfolding heard
     byte-right = by (d .wire .stand) refl (t .stands)
       where
-        by : (q : Stand) → d .wire .stand ≡ q → At q d h → Hears (heardIn q (d .wire) b)
+        by : (q : Stand) → d .wire .stand ≡ q → AtOf q d h → Hears (heardIn q (d .wire) b)
         by Idle q x = rests-hears x q
         by Reading q x = command-hears x
-        by Awaiting q x = ignored (subst (λ (q : Stand). At q d (heard-b h b)) (sym q) (place-byte h b ∙ x)) (due-at x)
+        by Awaiting q x = ignored (subst (λ (q : Stand). AtOf q d (heard-b h b)) (sym q) (place-byte h b ∙ x)) (due-at x)
         by Sent q x = answer-hears x q
 
   -- ---- a tick
@@ -610,7 +605,7 @@ module _ (d : Device) (h : History) (t : Tracks d h) where
     abbrev stays : ℕ → Device
     stays left = with-wire (waits (d .wire) left)
 
-    waits-on : (left : ℕ) → At (d .wire .stand) (stays left) (passed-ms h ms) → dueBy h (passes ms) ≡ nothing
+    waits-on : (left : ℕ) → AtOf (d .wire .stand) (stays left) (passed-ms h ms) → dueBy h (passes ms) ≡ nothing
         → Right h (passes ms) r (record { session = stays left; reply = Done 0 Nothing; room = r })
     unfolding over
     waits-on left x i = right h (passes ms) r (stays left) nothing i (record { store = t .store; count = count-on h (passes ms) [] ∙ t .count; stands = x })
@@ -621,24 +616,24 @@ module _ (d : Device) (h : History) (t : Tracks d h) where
     rests-ticks : (left : ℕ) → d .wire .stand ≡ Idle → Rests (d .wire) h → Right h (passes ms) r (record { session = stays left; reply = Done 0 Nothing; room = r })
     rests-ticks left q x =
         waits-on left
-        (subst (λ (q : Stand). At q (stays left) (passed-ms h ms)) (sym q)
+        (subst (λ (q : Stand). AtOf q (stays left) (passed-ms h ms)) (sym q)
         (record { where-at = place-tick h ms ∙ x .where-at; unbegun = begun-tick h ms ∙ x .unbegun; none = x .none }))
         (tick-due (x .where-at) ∙ cond-false _ _ (ap some (x .unbegun)))
 
     awaits-ticks : (left : ℕ) → d .wire .stand ≡ Awaiting → place h ≡ awaits (d .code)
         → Right h (passes ms) r (record { session = stays left; reply = Done 0 Nothing; room = r })
-    awaits-ticks left q x = waits-on left (subst (λ (q : Stand). At q (stays left) (passed-ms h ms)) (sym q) (place-tick h ms ∙ x)) (tick-due x)
+    awaits-ticks left q x = waits-on left (subst (λ (q : Stand). AtOf q (stays left) (passed-ms h ms)) (sym q) (place-tick h ms ∙ x)) (tick-due x)
 
     -- a wait that is not used up, and one that is
     in-time : ms < d .wire .left → Right h (passes ms) r (record { session = stays (d .wire .left - ms); reply = Done 0 Nothing; room = r })
     in-time g = by (d .wire .stand) refl (t .stands)
       where
-        by : (q : Stand) → d .wire .stand ≡ q → At q d h → Right h (passes ms) r (record { session = stays (d .wire .left - ms); reply = Done 0 Nothing; room = r })
+        by : (q : Stand) → d .wire .stand ≡ q → AtOf q d h → Right h (passes ms) r (record { session = stays (d .wire .left - ms); reply = Done 0 Nothing; room = r })
         by Idle q x = rests-ticks (d .wire .left - ms) q x
         by Reading q x =
             let f = take (d .wire .gathered) (d .store) in
             waits-on (d .wire .left - ms)
-            (subst (λ (q : Stand). At q (stays (d .wire .left - ms)) (passed-ms h ms)) (sym q)
+            (subst (λ (q : Stand). AtOf q (stays (d .wire .left - ms)) (passed-ms h ms)) (sym q)
             (record {
               where-at = place-tick h ms ∙ x .where-at;
               came = begun-tick h ms ∙ x .came;
@@ -654,7 +649,7 @@ module _ (d : Device) (h : History) (t : Tracks d h) where
         by Awaiting q x = awaits-ticks (d .wire .left - ms) q x
         by Sent q x =
             waits-on (d .wire .left - ms)
-            (subst (λ (q : Stand). At q (stays (d .wire .left - ms)) (passed-ms h ms)) (sym q)
+            (subst (λ (q : Stand). AtOf q (stays (d .wire .left - ms)) (passed-ms h ms)) (sym q)
             (record {
               where-at = place-tick h ms ∙ x .where-at;
               fits = x .fits;
@@ -667,7 +662,7 @@ module _ (d : Device) (h : History) (t : Tracks d h) where
     unfolding expired
     late n = by (d .wire .stand) refl (t .stands)
       where
-        by : (q : Stand) → d .wire .stand ≡ q → At q d h → Ticks (expiredIn q (d .wire))
+        by : (q : Stand) → d .wire .stand ≡ q → AtOf q d h → Ticks (expiredIn q (d .wire))
         by Idle q x = rests-ticks 0 q x
         by Reading q x =
             subst
@@ -712,44 +707,48 @@ module _ (d : Device) (h : History) (t : Tracks d h) where
   -- ---- the calls
 
   declined-right : (e : Deed ⊥ Answer) (r : List ℕ) (why : Declined) → Right h e r (record { session = d; reply = NotDone why; room = r })
-  declined-right e r why = record { tells = refl; tracks = declined-tracks d h t }
+  declined-right e r why = (refl, declined-tracks d h t)
 
-  abbrev stepLeft : StepAfter → After
-  stepLeft w = record { session = with-wire (w .wire); reply = w .reply; room = w .room }
-
-  called-right : (c : Call) → Right h (deed c) (lent c) (called d c)
+  pub called-right : (c : Call) → Right h (deed c) (lent c) (called d c)
   unfolding deviceByte byteStep byteRefusals deviceTick tickStep tickRefusals deviceTell tellStep tellRefusals
   called-right (byte b r) =
-      either-way (λ (w : ByteAfter). Right h (hears b) r (byteLeft w)) (byteRefusals r) _ _
+      either-way (λ (w : ByteAfter). Right h (hears b) r (byByte d w)) (byteRefusals r) (λ why. byteAfter (refusedStep (d .wire) why) (d .store) r)
+      (byteActed (heard (d .wire) b .heard) (heard (d .wire) b .wire) (d .answer) (d .store) (d .wire .gathered) b r)
       (λ why. declined-right (hears b) r why)
       (λ n. byte-right b r (certain (atMost 21 (length r)) (λ w. n .0 (omega arith))))
   called-right (tick ms r) =
-      either-way (λ (w : StepAfter). Right h (passes ms) r (stepLeft w)) (tickRefusals ms r) _ _
+      either-way (λ (w : StepAfter). Right h (passes ms) r (byTick d w)) (tickRefusals ms r) (λ why. stepAfter (refusedStep (d .wire) why) r)
+      (acted (passed (d .wire) ms .act) (passed (d .wire) ms .wire) (d .answer) r)
       (λ why. declined-right (passes ms) r why)
       (λ n. tick-right ms r (certain (atMost 21 (length r)) (λ w. n .0 (omega arith))))
   called-right (tell a r) =
       either-way
-      (λ (w : StepAfter).
-      Right h (own a) r
-      (record {
-        session = record { wire = w .wire; code = d .code; answer = answerBy (d .answer) a (w .reply); tallies = talliedBy (d .tallies) a (w .reply); store = d .store };
-        reply = w .reply;
-        room = w .room;
-      }))
-      (tellRefusals (d .wire) (d .code) a r) (λ why. stepAfter (refusedStep (d .wire) why) r) _
+      (λ (w : StepAfter). Right h (own a) r (byTelling d a w))
+      (tellRefusals (d .wire) (d .code) a r) (λ why. stepAfter (refusedStep (d .wire) why) r)
+      (doneAfter (sent (d .wire) 1) (send a r .put) Nothing (send a r .room))
       (λ why. declined-right (own a) r why)
       (λ n.
       let waited : isAwaiting (d .wire .stand) ≡ true = certain (says (isAwaiting (d .wire .stand))) (n .1 .1 .0) in
       tell-right a r (certain (atMost 21 (length r)) (λ w. n .0 (omega arith))) (certain (suits a (d .code)) (λ m. n .1 .0 (waited, m)) .1))
+
+-- a device that awaits the fields is one whose history has taken a command and not been told
+pub awaited : (d : Device) (h : History) → Tracks d h → isAwaiting (d .wire .stand) ≡ true → place h ≡ awaits (d .code)
+awaited d h t e = by (d .wire .stand) e (t .stands)
+  where
+    by : (q : Stand) → isAwaiting q ≡ true → AtOf q d h → place h ≡ awaits (d .code)
+    by Idle e x = absurd (true≢false (sym e))
+    by Reading e x = absurd (true≢false (sym e))
+    by Awaiting e x = x
+    by Sent e x = absurd (true≢false (sym e))
 
 -- ---- any calls at all
 
 run-tracks : (d : Device) (h : History) (cs : List Call) → Tracks d h → Tracks (run host d cs) (historyFrom host d h cs)
 unfolding run historyFrom
 run-tracks d h [] t = t
-run-tracks d h (c ∷ cs) t = run-tracks (called d c .session) (seen host d c ∷ h) cs (called-right d h t c .tracks)
+run-tracks d h (c ∷ cs) t = run-tracks (called d c .session) (seen host d c ∷ h) cs (called-right d h t c .1)
 
-fresh-tracks : Tracks freshDevice []
+pub fresh-tracks : Tracks freshDevice []
 unfolding freshDevice place begun come from answered
 fresh-tracks =
     record {
@@ -762,11 +761,11 @@ after-calls : (cs : List Call) → Tracks (run host freshDevice cs) (history cs)
 after-calls cs = run-tracks freshDevice [] cs fresh-tracks
 
 pub told-by-history : ToldByHistory
-told-by-history cs c = called-right (run host freshDevice cs) (history cs) (after-calls cs) c .tells
+told-by-history cs c = called-right (run host freshDevice cs) (history cs) (after-calls cs) c .0
 
 -- the numbers, by the device and by its history
 
-alike-at : (q : Stand) (d : Device) (h : History) (a : Answer) → At q d h
+alike-at : (q : Stand) (d : Device) (h : History) (a : Answer) → AtOf q d h
     → Alike (both (says (isAwaiting q)) (isnt (suits a (d .code))) gives Range ∷ isnt (says (isAwaiting q)) gives Unawaited ∷ [])
     (misfits (place h) a gives Range ∷ isnt (says (isAwaited (place h))) gives Unawaited ∷ [])
 alike-at Idle d h a x = rw (x .where-at) (refl, (((λ w. absurd (true≢false (sym (w .0)))), λ w. absurd w), λ n. (refl, (((λ w. w), λ w. w), λ m. tt))))

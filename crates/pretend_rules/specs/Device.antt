@@ -174,29 +174,36 @@ talliedBy t a (Done n what) = told t a
 unfoldable pub freshDevice : Device
 freshDevice = record { wire = freshWire; code = 0; answer = Purged 0; tallies = freshTallies; store = replicate 10 0 }
 
-unfoldable pub deviceByte : Device → ℕ → List ℕ → After
-deviceByte d b r =
-    let w = byteStep (d .wire) (d .answer) (d .store) b r in
+-- the device after a byte, after a tick and after a telling
+abbrev pub byByte : Device → ByteAfter → After
+byByte d w =
     record {
       session = record { wire = w .step .wire; code = codeBy (d .code) (w .step .reply); answer = d .answer; tallies = d .tallies; store = w .store };
       reply = w .step .reply;
       room = w .step .room;
     }
 
-unfoldable pub deviceTick : Device → ℕ → List ℕ → After
-deviceTick d ms r =
-    let w = tickStep (d .wire) (d .answer) ms r in
+abbrev pub byTick : Device → StepAfter → After
+byTick d w =
     record {
       session = record { wire = w .wire; code = d .code; answer = d .answer; tallies = d .tallies; store = d .store };
       reply = w .reply;
       room = w .room;
     }
 
-unfoldable pub deviceTell : Device → Answer → List ℕ → After
-deviceTell d a r =
-    let w = tellStep (d .wire) (d .code) a r in
+abbrev pub byTelling : Device → Answer → StepAfter → After
+byTelling d a w =
     record {
       session = record { wire = w .wire; code = d .code; answer = answerBy (d .answer) a (w .reply); tallies = talliedBy (d .tallies) a (w .reply); store = d .store };
       reply = w .reply;
       room = w .room;
     }
+
+unfoldable pub deviceByte : Device → ℕ → List ℕ → After
+deviceByte d b r = byByte d (byteStep (d .wire) (d .answer) (d .store) b r)
+
+unfoldable pub deviceTick : Device → ℕ → List ℕ → After
+deviceTick d ms r = byTick d (tickStep (d .wire) (d .answer) ms r)
+
+unfoldable pub deviceTell : Device → Answer → List ℕ → After
+deviceTell d a r = byTelling d a (tellStep (d .wire) (d .code) a r)

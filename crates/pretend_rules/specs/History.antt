@@ -1,6 +1,6 @@
 -- What is promised of the device after any calls at all from a fresh one, told from their history: its own account, what every accepted call puts and what came of
 -- it, and the numbers 1, 2, 6 and 9. What a history gives is read off the calls, what they returned and the bytes accepted. Nothing of that names a stand, a store or an
--- account. Proved in proofs/Own.antt and proofs/Told.antt.
+-- account. Proved in proofs/Account.antt and proofs/Told.antt.
 use Prim.Native.Nat.{ℕ, _+_}
 use mathlib.Core.Path.{_≡_}
 use mathlib.Core.Bool.{Bool, true, false, cond, not, _&&_, _||_}
