@@ -35,6 +35,10 @@ pub mod payout;
 pub mod payout_search;
 pub mod payout_sheet;
 
+// Q-14 of document 02
+pub mod pretend;
+pub mod pretend_sheet;
+
 // Recordings to try: written as text, simulated, made from a seed.
 pub mod bench;
 pub mod generate;

@@ -2,7 +2,7 @@
 use Prim.Native.Nat.{ℕ, _+_, _-_, _≤_, _<_}
 use mathlib.Core.Path.{_≡_, refl, sym, ap, _∙_, subst}
 use mathlib.Core.Bool.{Bool, true}
-use mathlib.Core.List.{List}
+use mathlib.Core.List.{List, []}
 use mathlib.Core.Logic.{⊎-elim}
 use native.Mathlib.Omega.{arith}
 use lib.ListN.{length, take, set}
@@ -14,8 +14,8 @@ use Rattle.dispenser_frame_rules.specs.declared.answer.Answer.{Answer}
 use Rattle.dispenser_frame_rules.specs.declared.answer.AnswerRead.{AnswerRead}
 use Rattle.dispenser_frame_rules.specs.declared.answer.AnswerRead.the-variants.{Read}
 use Rattle.exchange_rules.specs.Limits.{quiet, answerWait, frameWait}
-use Rattle.exchange_rules.specs.Exchange.{isOpen, turn, hearing, opened, closed, ends, starting, inside, waits, firstByte, startByte, insideByte, heardIn, heard, expiredIn, expired, passed}
-use Rattle.dispenser_rules.specs.Session.{pays, StepAfter, ByteAfter, OpeningAfter, After, openingAfter, refusedOpening, handOver, command, requestRefusals, requestStep, accountAsked, sessionRequest, stepAfter, byteAfter, refusedStep, acted, judgedStep, judgeStep, byteActed, byteRefusals, tickRefusals, byteStep, tickStep, accountHeard, sessionByte, sessionTick}
+use Rattle.exchange_rules.specs.Exchange.{isOpen, turn, hearing, opened, closed, doubted, ends, starting, inside, waits, firstByte, startByte, insideByte, heardIn, heard, expiredIn, expired, passed}
+use Rattle.dispenser_rules.specs.Session.{pays, StepAfter, ByteAfter, OpeningAfter, After, openingAfter, refusedOpening, handOver, command, requestRefusals, requestStep, accountAsked, sessionRequest, stepAfter, byteAfter, refusedStep, acted, judgedStep, judgeStep, byteActed, byteRefusals, tickRefusals, byteStep, tickStep, accountHeard, sessionByte, sessionTick, clearRefusals, clearStep, sessionClear}
 use Rattle.dispenser_rules.specs.Calls.{host}
 use Rattle.ledger.specs.Account.{answered}
 use Rattle.ledger.specs.Calls.{declinedAfter, Declines}
@@ -28,6 +28,7 @@ use Rattle.exchange_rules.specs.declared.line.Turn.{Turn}
 use Rattle.exchange_rules.specs.declared.line.Hearing.{Hearing}
 use Rattle.dispenser_rules.specs.declared.session.Closing.the-variants.{Nothing as NoClosing, Answered}
 use Rattle.dispenser_rules.specs.declared.session.Reply.the-variants.{Done}
+use Rattle.dispenser_rules.specs.declared.session.Step.{Step}
 use Rattle.dispenser_rules.specs.declared.session.Session.{Session}
 
 -- the session goes on with this line and store: nothing is put, nothing closes
@@ -86,6 +87,15 @@ request-opens s code upper lower r n =
       room = w .room;
     })
     (none-judged (λ why. openingAfter (refusedOpening (s .line) (s .asked) why) r) _ (requestRefusals (s .line) code upper lower r) n)
+
+-- ---- clear
+
+pub clear-clears : (s : Session) → NoneOf (clearRefusals (s .line)) → sessionClear s ≡ goes s (doubted (s .line) 0) (s .store) []
+unfolding sessionClear clearStep
+clear-clears s n =
+    ap
+    (λ (w : Step). record { session = record { line = w .line; asked = s .asked; account = s .account; store = s .store }; reply = w .reply; room = [] })
+    (none-judged (refusedStep (s .line)) _ (clearRefusals (s .line)) n)
 
 -- ---- ticks
 

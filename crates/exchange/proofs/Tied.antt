@@ -18,6 +18,8 @@ use Rattle.exchange.proofs.line.heard.Kinds as heard
 use Rattle.exchange.proofs.line.heard.Reads as heard-reads
 use Rattle.exchange.proofs.line.passed.Kinds as passed
 use Rattle.exchange.proofs.line.passed.Reads as passed-reads
+use Rattle.exchange.proofs.sums.plus.Kinds as sums-plus
+use Rattle.exchange.proofs.sums.plus.Reads as sums-plus-reads
 use Rattle.exchange.proofs.sums.opened.Kinds as sums-opened
 use Rattle.exchange.proofs.sums.opened.Reads as sums-opened-reads
 use Rattle.exchange.proofs.sums.answered.Kinds as sums-answered
@@ -72,6 +74,11 @@ heard-tied =
 pub passed-tied : Tied passed.ps passed.r passed-reads.Post (λ κs x e. x)
 passed-tied =
     tied passed.ps passed.r passed-reads.Post (λ κs x e. x) _
+    (λ κs a x e p. p)
+
+pub sums-plus-tied : Tied sums-plus.ps sums-plus.r sums-plus-reads.Post (λ κs x e. x)
+sums-plus-tied =
+    tied sums-plus.ps sums-plus.r sums-plus-reads.Post (λ κs x e. x) _
     (λ κs a x e p. p)
 
 pub sums-opened-tied : Tied sums-opened.ps sums-opened.r sums-opened-reads.Post (λ κs x e. x)

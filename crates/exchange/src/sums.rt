@@ -16,8 +16,9 @@ fn excess(a: u32, b: u32) -> u32
 }
 
 // So many notes more. A sum past the end of u32 would stay where it is: no session from a fresh one comes near, since it accepts
-// no more than 1,000,000 commands (`NeverCut` in dispenser_rules/specs/History.antt).
-fn plus(was: Notes, n: u32) -> Notes
+// no more than 1,000,000 commands (`NeverCut` in dispenser_rules/specs/History.antt), and no device, since it answers no more (`OwnAccount` in
+// pretend_rules/specs/History.antt).
+pub fn plus(was: Notes, n: u32) -> Notes
     ensures { λ r. ⌜ r ≡ plus was n ⌝ }
 {
     let a = was.0;

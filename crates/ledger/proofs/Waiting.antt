@@ -41,7 +41,7 @@ frame-no-nak (b ∷ c ∷ s) e = refl
 
 module _ (opening : ℕ) where
   -- before the opening byte has come: the next byte is it, or there is still none
-  start-next : (s : List ℕ) (b : ℕ) → from opening s ≡ [] → from opening (s ++ (b ∷ [])) ≡ cond (eqb b opening) (b ∷ []) []
+  pub start-next : (s : List ℕ) (b : ℕ) → from opening s ≡ [] → from opening (s ++ (b ∷ [])) ≡ cond (eqb b opening) (b ∷ []) []
   unfolding from
   start-next [] b e = refl
   start-next (a ∷ s) b e = by (start-next s b) (eqb a opening) e
@@ -52,7 +52,7 @@ module _ (opening : ℕ) where
       by again false f = again f
 
   -- once it has come, every byte counts
-  start-more : (s t : List ℕ) → some (from opening s) ≡ true → from opening (s ++ t) ≡ from opening s ++ t
+  pub start-more : (s t : List ℕ) → some (from opening s) ≡ true → from opening (s ++ t) ≡ from opening s ++ t
   unfolding from
   start-more [] t e = absurd (true≢false (sym e))
   start-more (a ∷ s) t e = by (start-more s t) (eqb a opening) e

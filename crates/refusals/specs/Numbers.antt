@@ -4,7 +4,7 @@ use Prim.Native.Nat.{ℕ}
 use Rattle.refusals.specs.declared.Refusal.{Refusal}
 use Rattle.refusals.specs.declared.Refusal.the-variants.{Room, Range}
 use Rattle.refusals.specs.declared.Declined.{Declined}
-use Rattle.refusals.specs.declared.Declined.the-variants.{Room as NoRoom, Range as NotSendable, Open, Unquiet, Spent, Tick, Stopped}
+use Rattle.refusals.specs.declared.Declined.the-variants.{Room as NoRoom, Range as NotSendable, Open, Unquiet, Spent, Tick, Stopped, Unawaited}
 
 -- "room lent for sending is under 16 bytes (dispenser session), 255 (validator session), or the frame's, record's or report's own length (plain writer)"
 abbrev pub noRoom : ℕ
@@ -37,6 +37,10 @@ lineStopped = 7
 -- "no such payout" (02, Q-10)
 abbrev pub noPayout : ℕ
 noPayout = 8
+
+-- "fields when none are awaited [are refused] with the new number 9" (02, Q-14)
+abbrev pub notAwaited : ℕ
+notAwaited = 9
 
 -- "frame length is wrong"
 abbrev pub badLength : ℕ
@@ -92,3 +96,4 @@ declinedNumber Unquiet = notQuiet
 declinedNumber Spent = allSpent
 declinedNumber Tick = badTick
 declinedNumber Stopped = lineStopped
+declinedNumber Unawaited = notAwaited

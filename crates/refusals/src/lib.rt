@@ -26,6 +26,9 @@ pub const STOPPED: u8 = 7;
 // No such payout (document 02, Q-10).
 pub const PAYOUT: u8 = 8;
 
+// The answer's fields are told to a pretend dispenser when none are awaited (document 02, Q-14).
+pub const UNAWAITED: u8 = 9;
+
 // Frame length is wrong.
 pub const LENGTH: u8 = 11;
 
@@ -98,6 +101,8 @@ pub enum Declined {
     Tick,
     // Two paying commands in succession closed unknown, and the line has not been cleared.
     Stopped,
+    // No answer's fields are awaited.
+    Unawaited,
 }
 
 impl Declined {
@@ -113,6 +118,7 @@ impl Declined {
             Declined::Spent => SPENT,
             Declined::Tick => TICK,
             Declined::Stopped => STOPPED,
+            Declined::Unawaited => UNAWAITED,
         }
     }
 }

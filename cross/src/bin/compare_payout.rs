@@ -1,5 +1,5 @@
-//! `compare_payout [--count N] [--seed N] [--batch N] -- COMMAND..`: gives lines made from the seed to `COMMAND..` on standard input, and
-//! says where what it writes is not what must be written, or what was reached.
+//! `compare_payout [--count N] [--seed N] [--batch N] (-- COMMAND.. | --write FOLDER)`: gives lines made from the seed to `COMMAND..` on standard
+//! input, and says where what it writes is not what must be written, or what was reached; or writes them.
 
 use cross::{payout_sheet, sheet};
 use std::process::ExitCode;

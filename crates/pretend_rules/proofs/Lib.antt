@@ -1,0 +1,12 @@
+pub mod Exact
+pub mod Sending
+pub mod Account
+pub mod Told
+pub mod Together
+pub mod HostMoves
+pub mod DeviceMoves
+pub mod Agreement
+pub mod Both
+pub mod Working
+pub mod Straying
+pub mod Tied

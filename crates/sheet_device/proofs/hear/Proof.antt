@@ -1,0 +1,48 @@
+-- `sheet_device::hear` is safe and ends after so many bytes. Assumes nothing.
+use mathlib.Core.Path.{_≡_}
+use Prim.Native.Nat.{_≤_, _-_}
+use lib.ListN.{length}
+use borrow.Author.Needs.{needs}
+use Rattle.sheet_device.proofs.hear.Statement.{statement}
+use Rattle.sheet_device.proofs.hear.Tie as tie
+
+abbrev Inv-loop : tie.InvT-loop
+Inv-loop times sent down up₀ now₀ k₀ up now k = (k ≤ times) × (length up ≡ length up₀)
+
+abbrev μ-loop : tie.MeasureT-loop
+μ-loop times sent down up₀ now₀ k₀ up now k = times - k
+
+loop-holds : tie.Need-loop-holds Inv-loop μ-loop
+loop-holds c = search needs
+
+next-requires : tie.Need-next-requires Inv-loop μ-loop
+next-requires c κs = search needs
+
+add-k : tie.Need-add-k Inv-loop μ-loop
+add-k c = search needs
+
+loop-less : tie.Need-loop-less Inv-loop μ-loop
+loop-less c = search needs
+
+loop-again : tie.Need-loop-again Inv-loop μ-loop
+loop-again c = search needs
+
+same-length : tie.Need-same-length Inv-loop μ-loop
+same-length c = search needs
+
+returns : tie.Need-returns Inv-loop μ-loop
+returns c = search needs
+
+pub hear-spec : {M : Type 1} → statement M
+hear-spec =
+    tie.close
+    (tie.spec
+    Inv-loop
+    μ-loop
+    loop-holds
+    next-requires
+    add-k
+    loop-less
+    loop-again
+    same-length
+    returns)
