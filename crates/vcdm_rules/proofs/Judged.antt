@@ -1,8 +1,9 @@
 -- What a full frame is, exactly; which answers alter a sum; and the quiet that a closing asks. Assumes nothing.
-use Prim.Native.Nat.{ℕ}
+use Prim.Native.Nat.{ℕ, _≤_}
 use mathlib.Core.Path.{_≡_, refl, sym, ap, _∙_}
 use mathlib.Core.List.{List}
 use native.Mathlib.Omega.{arith}
+use lib.Dec.{lit≤}
 use lib.ListN.{getD}
 use borrow.Author.Tests.{eq-eqb, ne-eqb}
 use Rattle.refusals.specs.Rules.{same}
@@ -138,6 +139,11 @@ alters-none a q f x n e =
     alters a (q .counts) x (λ c. n (sym (g .same-code) ∙ c))
 
 -- ---- quiet
+
+-- no command asks more than 2,000 ms beyond the line's quiet
+pub more-most : (code : ℕ) → moreQuiet code ≤ 2_000
+unfolding moreQuiet
+more-most code = pick (λ (n : ℕ). n ≤ 2_000) (same code 0x44) _ _ (λ e. lit≤ tt) (λ n. lit≤ tt)
 
 pub quiets : Quiets
 unfolding moreQuiet
