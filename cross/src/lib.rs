@@ -24,6 +24,11 @@ pub mod ccnet_frame;
 pub mod ccnet_wide;
 pub mod validator;
 
+// Q-3 of document 02
+pub mod vcdm;
+pub mod vcdm_frame;
+pub mod vcdm_sheet;
+
 // Q-8 of document 02
 pub mod pairs;
 pub mod parted;

@@ -14,7 +14,7 @@ use Rattle.refusals.proofs.Rules.{holds-true, by-cases, certain}
 use Rattle.numbers.specs.Decimal.{digitsOnly, number, readDigits}
 use Rattle.numbers.specs.declared.Number.{Number}
 use Rattle.numbers.specs.declared.Number.the-variants.{Of, NoNumber}
-use Rattle.xor_frame.specs.Layout.{Field, count, byte, raised, size, allFit, allValues, allInRange}
+use Rattle.xor_frame.specs.Layout.{Field, count, byte, raised, free, size, allFit, allValues, allInRange}
 use Rattle.xor_frame.specs.Parts.{countAt, lowered, fieldFaults}
 
 -- ---- two bytes read as digits
@@ -43,6 +43,7 @@ abbrev pub rawAt : Field → ℕ → List ℕ → ℕ
 rawAt (count low high) at s = countAt at s
 rawAt (byte low high) at s = getD s at 0
 rawAt (raised low high) at s = lowered (getD s at 0)
+rawAt free at s = getD s at 0
 
 unfoldable pub rawValues : List Field → ℕ → List ℕ → List ℕ
 rawValues [] at s = []
@@ -55,6 +56,7 @@ Sound [] = Unit {0}
 Sound (count low high ∷ fs) = (high < 100) × Sound fs
 Sound (byte low high ∷ fs) = Sound fs
 Sound (raised low high ∷ fs) = (high < 300) × Sound fs
+Sound (free ∷ fs) = Sound fs
 
 count-fits : (t : Bool) (low high n : ℕ) → high < 100 → (t && within low high n .test) ≡ within low high (cond t n 100) .test
 count-fits true low high n h = refl
@@ -78,6 +80,7 @@ raw-fits (count low high ∷ fs) at s h =
     ap₂ _&&_ (count-fits (digitsOnly (take 2 (drop at s)) .test) low high (number (take 2 (drop at s))) (h .0)) (raw-fits fs (at + 2) s (h .1))
 raw-fits (byte low high ∷ fs) at s h = ap (λ (t : Bool). within low high (getD s at 0) .test && t) (raw-fits fs (at + 1) s h)
 raw-fits (raised low high ∷ fs) at s h = ap₂ _&&_ (raised-fits (getD s at 0) low high (h .0)) (raw-fits fs (at + 1) s (h .1))
+raw-fits (free ∷ fs) at s h = raw-fits fs (at + 1) s h
 
 lowered-plain : (b : ℕ) → 0x20 ≤ b → lowered b ≡ b - 0x20
 unfolding lowered
@@ -91,6 +94,7 @@ raw-values (count low high ∷ fs) at s h =
     ap₂ _∷_ (rw (holds-true (digitsOnly (take 2 (drop at s))) (h .0 .0))) (raw-values fs (at + 2) s (h .1))
 raw-values (byte low high ∷ fs) at s h = ap (λ (l : List ℕ). getD s at 0 ∷ l) (raw-values fs (at + 1) s (h .1))
 raw-values (raised low high ∷ fs) at s h = ap₂ _∷_ (lowered-plain (getD s at 0) (h .0 .0)) (raw-values fs (at + 1) s (h .1))
+raw-values (free ∷ fs) at s h = ap (λ (l : List ℕ). getD s at 0 ∷ l) (raw-values fs (at + 1) s (h .1))
 
 -- so reading goes by the reader's values alone, whatever is made of them
 pub read-raw : {A : Type 0} (fs : List Field) (make : List ℕ → A) (bad : A) (s : List ℕ) → Sound fs

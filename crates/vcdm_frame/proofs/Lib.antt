@@ -1,0 +1,2 @@
+-- That no contract leaves a choice.
+pub mod Tied
