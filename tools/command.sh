@@ -72,10 +72,11 @@ run() {
     exec ${emulator:+"$emulator"} "$tools/lib/ld-linux-x86-64.so.2" --library-path "$tools/lib" "$program" "$@"
 }
 
+# Standard error is lent as descriptor 4: where it is a terminal, the program shows there how far it is.
 ask() {
     {
         run "$@" 2>&1 >&3 3>&- | while IFS= read -r line || [ -n "$line" ]; do printf '! %s\n' "$line"; done
-    } 3>&1
+    } 3>&1 4>&2
 }
 
 # ---- what a program is built of

@@ -5,7 +5,7 @@ use crate::dispenser_frame::Code;
 use crate::number;
 use crate::quick;
 use crate::random::Random;
-use crate::recording::{self, LONGEST};
+use crate::recording;
 use crate::validator;
 
 #[derive(Clone, Copy, Debug, PartialEq, Eq)]
@@ -24,12 +24,16 @@ pub enum Family {
     Bytes,
     /// A few bytes.
     Short,
-    /// Near the longest length, and over it.
+    /// Around 65,536 bytes, and over them.
     Long,
 }
 
-/// Where the turns of `Many` begin.
+/// Where the turns of `Many` begin, and those of `Long`.
 const MANY: u64 = 37;
+const LONG: u64 = 95;
+
+/// A program may hold so many bytes of a recording at a time. It can go wrong where one piece ends and the next begins.
+pub const PIECE: usize = 65_536;
 
 impl Family {
     pub const ALL: [Family; 8] = [
@@ -65,8 +69,8 @@ impl Family {
             57..=76 => Family::Damaged,
             77..=86 => Family::Records,
             87..=88 => Family::Bytes,
-            89..=98 => Family::Short,
-            _ => Family::Long,
+            89..=94 => Family::Short,
+            LONG.. => Family::Long,
         }
     }
 }
@@ -84,7 +88,7 @@ pub fn recording(seed: u64, index: u64) -> (Family, Vec<u8>) {
         Family::Records => records(random),
         Family::Bytes => any(random, 200),
         Family::Short => short(random),
-        Family::Long => long(random),
+        Family::Long => long(random, index / 100 * 5 + index * 37 % 100 - LONG),
     };
     (family, bytes)
 }
@@ -302,12 +306,20 @@ fn short(random: &mut Random) -> Vec<u8> {
     }
 }
 
-/// A bench at work for so long that the recording is near the limit.
-fn long(random: &mut Random) -> Vec<u8> {
+/// A bench at work for about a piece, or more than a piece. They take turns, and so do the kinds of the record that lies across its end.
+fn long(random: &mut Random, turn: u64) -> Vec<u8> {
+    match turn % 20 {
+        0..=3 => about_a_piece(random),
+        4..=6 => over(random, None),
+        place => over(random, Some(((turn / 20 * 13 + place) % 5) as u8)),
+    }
+}
+
+fn about_a_piece(random: &mut Random) -> Vec<u8> {
     let length = match random.below(8) {
-        0..=2 => LONGEST,
-        3 => LONGEST - random.below(4) as usize,
-        4..=6 => LONGEST + random.within(1, 4) as usize,
+        0..=2 => PIECE,
+        3 => PIECE - random.below(4) as usize,
+        4..=6 => PIECE + random.within(1, 4) as usize,
         _ => random.within(20_000, 70_000) as usize,
     };
     let mut bytes = Simulation::new(random.word()).run(length - 32);
@@ -317,6 +329,46 @@ fn long(random: &mut Random) -> Vec<u8> {
         return bytes;
     }
     fill(&mut bytes, length);
+    bytes
+}
+
+/// The same bench at work over and over, up to a record that lies across the end of a piece. Either that one is wrong; or it is a good one of
+/// this kind, the bench is at work once more, and then there may be a wrong one.
+fn over(random: &mut Random, kind: Option<u8>) -> Vec<u8> {
+    let end = PIECE * random.pick(&[1, 1, 1, 1, 2]);
+    let length = random.within(1_000, 4_000) as usize;
+    let some = Simulation::new(random.word()).run(length);
+    let mut bytes = some.repeat((end - 32) / some.len());
+    let Some(kind) = kind else {
+        let mut across = Vec::new();
+        // one that shows it at its second byte or further on
+        while !matches!(across[..], [recording::REQUEST..=recording::ASK, _, ..]) {
+            across.clear();
+            wrong(random, &mut across);
+        }
+        fill(&mut bytes, end - 1);
+        return [bytes, across].concat();
+    };
+    let across = good(random, kind);
+    fill(&mut bytes, end - random.within(1, across.len() as u32 - 1) as usize);
+    bytes.extend(across);
+    bytes.extend(some);
+    if random.below(5) < 3 {
+        wrong(random, &mut bytes);
+    }
+    bytes
+}
+
+/// A good record of a kind that has numbers.
+fn good(random: &mut Random, kind: u8) -> Vec<u8> {
+    let mut bytes = Vec::new();
+    let numbers = match kind {
+        recording::REQUEST => vec![u32::from(random.pick(&Code::ALL).byte()), value(random), value(random)],
+        recording::TICK => vec![random.pick(&[1, 127, 128, 1_000, 16_384, u32::MAX])],
+        recording::ASK => vec![u32::from(random.pick(&validator::Command::ALL).byte())],
+        _ => vec![u32::from(line_byte(random) | random.pick(&[0, 0x80]))],
+    };
+    recording::write(kind, &numbers, &mut bytes);
     bytes
 }
 

@@ -91,7 +91,7 @@ mod tests {
     #[test]
     fn every_load_is_good_and_has_its_length() {
         for (name, piece) in LOADS {
-            for length in [1_024, recording::LONGEST] {
+            for length in [1_024, 65_536, 70_000] {
                 let bytes = load(piece, 1, length);
                 assert_eq!(bytes.len(), length);
                 let bench = crate::replay::replay(&bytes).unwrap();

@@ -344,7 +344,7 @@ fn across(random: &mut Random) -> (Vec<u8>, usize) {
 
 /// Puts bytes where the record begins that holds a place, or behind the last record before it, up to an offset.
 fn replace(bytes: &mut Vec<u8>, place: usize, upto: usize, with: &[u8]) {
-    let mut records = recording::of_any_length(bytes);
+    let mut records = recording::records(bytes);
     let mut at = 0;
     while let Some(Ok(_)) = records.next() {
         if records.at() > place {
@@ -380,7 +380,7 @@ mod tests {
         for _ in 0..1_000 {
             for (number, fault) in [(21, Fault::Number), (22, Fault::Cut), (23, Fault::Unknown)] {
                 let bytes = wrong(random, number);
-                let first = recording::of_any_length(&bytes).next();
+                let first = recording::records(&bytes).next();
                 assert_eq!(first, Some(Err(Bad { fault, at: 0 })), "{bytes:02X?}");
             }
         }
@@ -391,7 +391,7 @@ mod tests {
         let random = &mut Random::new(1);
         for _ in 0..1_000 {
             let one = record(random);
-            let read = recording::of_any_length(&in_long_form(one)).next();
+            let read = recording::records(&in_long_form(one)).next();
             match one {
                 Record::Clear => assert_eq!(read, Some(Ok(one))),
                 _ => assert_eq!(read, Some(Err(Bad { fault: Fault::Number, at: 0 })), "{one:?}"),

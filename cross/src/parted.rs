@@ -1,6 +1,6 @@
 //! "Where did the two runs part?" (Q-8 of document 02): a student's recording beside the reference.
 
-use crate::recording::{of_any_length, Bad};
+use crate::recording::{records, Bad};
 use std::fmt;
 
 /// Whose recording.
@@ -34,8 +34,8 @@ pub enum Parted<'a> {
 
 /// Where the two part: behind "the longest run of equal whole records". However long they are, there is no 24.
 pub fn parted<'a>(student: &'a [u8], reference: &'a [u8]) -> Parted<'a> {
-    let (mut ours, mut theirs) = (of_any_length(student), of_any_length(reference));
-    let mut records = 0;
+    let (mut ours, mut theirs) = (records(student), records(reference));
+    let mut equal = 0;
     loop {
         // as long as the records are equal, so are their places: a record is written in one way
         let at = ours.at();
@@ -45,7 +45,7 @@ pub fn parted<'a>(student: &'a [u8], reference: &'a [u8]) -> Parted<'a> {
             (_, Some(Err(why))) => return bad(Whose::Reference, why),
             (None, None) => return Parted::Equal { rest: &reference[at..], at },
             (Some(Ok(one)), Some(Ok(other))) if one == other => {
-                records += 1;
+                equal += 1;
                 continue;
             }
             (Some(Ok(_)), _) => Whose::Student,
@@ -56,7 +56,7 @@ pub fn parted<'a>(student: &'a [u8], reference: &'a [u8]) -> Parted<'a> {
             Whose::Reference => &reference[at..],
         };
         let (student, reference) = (&student[at..ours.at()], &reference[at..theirs.at()]);
-        return Parted::Part { whose, rest, at, records, student, reference };
+        return Parted::Part { whose, rest, at, records: equal, student, reference };
     }
 }
 

@@ -6,7 +6,7 @@
 use crate::pairs::{self, Pair, MOST};
 use crate::parted::{lines, parted, Parted, Whose};
 use crate::reach::{places, Reach, Reached};
-use crate::recording::{of_any_length, Bad, Fault, Record};
+use crate::recording::{records, Bad, Fault, Record};
 use crate::sheet::Sheet;
 
 /// The line of a pair.
@@ -145,7 +145,7 @@ fn part_of(number: usize, begin: &[usize]) -> usize {
 
 /// The first fault of a recording.
 fn fault(recording: &[u8]) -> Option<Bad> {
-    of_any_length(recording).find_map(Result::err)
+    records(recording).find_map(Result::err)
 }
 
 fn same_bytes(one: &[u8], other: &[u8]) -> usize {
@@ -192,7 +192,7 @@ fn malformed(student: &[u8], reference: &[u8], whose: Whose, bad: Bad, all: &mut
             }
         }
     }
-    all.part(Place::BadBehind, of_any_length(&named[..at]).count().min(2));
+    all.part(Place::BadBehind, records(&named[..at]).count().min(2));
     if other.len() > at {
         all.part(Place::BadBytes, same_bytes(&named[at..], &other[at..]).min(2));
     }
@@ -201,7 +201,7 @@ fn malformed(student: &[u8], reference: &[u8], whose: Whose, bad: Bad, all: &mut
 /// Whether the first record of some bytes is bad since its last number has a needless group, and says without it what the other
 /// record says.
 fn says_the_same(bad: &[u8], good: &[u8]) -> bool {
-    let mut records = of_any_length(good);
+    let mut records = records(good);
     match records.next() {
         Some(Ok(Record::Clear)) | Some(Err(_)) | None => false,
         Some(Ok(_)) => {
@@ -221,7 +221,7 @@ mod tests {
     fn told_plainly(Pair { student, reference }: &Pair) -> String {
         // where each record begins, its bytes, and the fault behind the last one
         let read = |bytes: &[u8]| {
-            let (mut all, mut records, mut at) = (Vec::new(), of_any_length(bytes), 0);
+            let (mut all, mut records, mut at) = (Vec::new(), records(bytes), 0);
             while let Some(record) = records.next() {
                 match record {
                     Ok(_) => all.push(Ok(bytes[at..records.at()].to_vec())),

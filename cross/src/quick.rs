@@ -231,7 +231,7 @@ mod tests {
             let left_open = seed % 2 == 0;
             let bytes = recording(seed, payouts, left_open);
             let (mut host, mut rooms, mut taken) = (Bench::fresh(), Rooms::new(), 0);
-            for record in records(&bytes).unwrap().flatten() {
+            for record in records(&bytes).flatten() {
                 let played = host.play(record, &mut rooms);
                 let pays = matches!(record, Record::Request(command) if command.code.pays());
                 taken += u32::from(pays && !matches!(played, Played::Declined(_)));

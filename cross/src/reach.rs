@@ -129,7 +129,9 @@ places! {
     UnknownKind = 100, "recording: bad 23, unknown kind": "6 to 15" "16 to 254" "255";
     UnknownCode = 100, "recording: bad 23, code outside the list": "kind 0" "kind 4";
     Above255 = 100, "recording: bad 23, above 255 and else good": "kind 0" "kind 1" "kind 3" "kind 4";
-    Bad24 = 1, "recording: bad 24";
+    Long = 100, "recording: over 65,536 bytes": "good" "bad 21" "bad 22" "bad 23";
+    Across = 100, "recording: a record across the end of 65,536 bytes":
+        "kind 0" "kind 1" "kind 2" "kind 3" "kind 4" "a bad one";
 }
 
 /// What one recording reached: of each place, which parts; a place without parts is its part 0.

@@ -2,7 +2,7 @@
 
 use crate::dispenser::{self, Closing, Declined};
 use crate::error_class::LastErrors;
-use crate::recording::{self, Bad, Record};
+use crate::recording::{Bad, Pieces, Record};
 use crate::validator;
 use std::hint::black_box;
 
@@ -59,7 +59,7 @@ impl Bench {
     }
 
     /// "Each record refused by a session counts once as declined."
-    #[inline]
+    #[inline(always)]
     pub fn play(&mut self, record: Record, rooms: &mut Rooms) -> Played {
         self.records += 1;
         match self.step(record, rooms) {
@@ -71,7 +71,7 @@ impl Bench {
         }
     }
 
-    #[inline]
+    #[inline(always)]
     fn step(&mut self, record: Record, rooms: &mut Rooms) -> Result<Played, Declined> {
         let Rooms { dispenser, validator } = rooms;
         Ok(match record {
@@ -96,15 +96,43 @@ impl Bench {
     }
 }
 
-/// The bench after a good recording. Nobody hears here what is sent; but the rooms are lent as if by somebody who reads them,
-/// so that a compiler may leave no frame unwritten.
-pub fn replay(bytes: &[u8]) -> Result<Bench, Bad> {
-    let mut bench = Bench::fresh();
-    let mut rooms = Rooms::new();
-    black_box(&mut rooms);
-    for record in recording::records(bytes)? {
-        bench.play(record?, &mut rooms);
+/// A recording that comes in pieces, played as it comes. Nobody hears here what is sent; but the rooms are lent as if by somebody
+/// who reads them, so that a compiler may leave no frame unwritten.
+#[derive(Clone, Debug, Default)]
+pub struct Replay {
+    pieces: Pieces,
+    bench: Bench,
+    rooms: Rooms,
+}
+
+impl Replay {
+    pub fn fresh() -> Replay {
+        Replay::default()
     }
-    black_box(&rooms);
-    Ok(bench)
+
+    pub fn piece(&mut self, bytes: &[u8]) {
+        let Replay { pieces, bench, rooms } = self;
+        black_box(&mut *rooms);
+        pieces.piece(bytes, |record| {
+            bench.play(record, rooms);
+        });
+        black_box(&*rooms);
+    }
+
+    pub fn is_bad(&self) -> bool {
+        self.pieces.is_bad()
+    }
+
+    /// The bench after a good recording.
+    pub fn ended(self) -> Result<Bench, Bad> {
+        self.pieces.ended()?;
+        Ok(self.bench)
+    }
+}
+
+/// The bench after a good recording that comes in one piece.
+pub fn replay(bytes: &[u8]) -> Result<Bench, Bad> {
+    let mut replay = Replay::fresh();
+    replay.piece(bytes);
+    replay.ended()
 }

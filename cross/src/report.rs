@@ -7,7 +7,12 @@ use crate::replay::{replay, Bench};
 
 /// The report, good or bad: a function of the recording's bytes.
 pub fn report(recording: &[u8]) -> String {
-    match replay(recording) {
+    told(replay(recording))
+}
+
+/// The report of a recording that was replayed.
+pub fn told(replayed: Result<Bench, Bad>) -> String {
+    match replayed {
         Ok(bench) => lines(&bench),
         Err(bad) => self::bad(bad),
     }
@@ -88,9 +93,25 @@ mod tests {
         assert_eq!(report(&[2, 1, 2]), "bad 22 at 2\n");
         assert_eq!(report(&[2, 1, 0xFF]), "bad 23 at 2\n");
         assert_eq!(report(&[2, 1, 4, 0x34]), "bad 23 at 2\n");
-        assert_eq!(report(&[0xFF; 65_537]), "bad 24 at 0\n");
-        assert_eq!(report(&[0xFF; 65_536]), "bad 23 at 0\n");
+        assert_eq!(report(&[0xFF; 65_537]), "bad 23 at 0\n");
         assert_eq!(report(&[2; 65_536]).lines().last(), Some("records 32768"));
+        assert_eq!(report(&[2; 65_537]), "bad 22 at 65536\n");
+        assert_eq!(report(&[2; 65_538]).lines().last(), Some("records 32769"));
+    }
+
+    #[test]
+    fn however_a_recording_is_cut_its_report_is_the_same() {
+        let (_, bytes) = crate::generate::recording(1, 0);
+        let wanted = report(&bytes);
+        assert!(wanted.starts_with("upper "));
+        for size in [1, 2, 3, 7, 64, bytes.len() - 1] {
+            let mut replay = crate::replay::Replay::fresh();
+            for piece in bytes.chunks(size) {
+                replay.piece(piece);
+                replay.piece(&[]);
+            }
+            assert_eq!(told(replay.ended()), wanted, "by {size}");
+        }
     }
 
     #[test]

@@ -9,13 +9,19 @@
 
 use crate::dispenser_frame::Command;
 use crate::kept::{Entry, Fate};
-use crate::replay::replay;
+use crate::recording::Bad;
+use crate::replay::{replay, Bench};
 use crate::report;
 
 /// "one line for each kept request, oldest first"; "A bad recording writes its one line "bad 22 at 7", as the report does; one
 /// without paying requests writes nothing."
 pub fn requests(recording: &[u8]) -> String {
-    match replay(recording) {
+    told(replay(recording))
+}
+
+/// The lines about a recording that was replayed.
+pub fn told(replayed: Result<Bench, Bad>) -> String {
+    match replayed {
         Ok(bench) => lines(bench.dispenser.account().kept.all()),
         Err(bad) => report::bad(bad),
     }
@@ -44,7 +50,7 @@ mod tests {
     use crate::text;
 
     /// What is written of a recording that is told as text.
-    fn told(said: &str) -> String {
+    fn of(said: &str) -> String {
         requests(&text::recording(said).unwrap())
     }
 
@@ -69,17 +75,17 @@ mod tests {
                       56 upper 5 lower 3 handed 4 refused\n\
                       55 upper 0 lower 2 handed 1 unknown\n\
                       45 upper 1 lower 0 handed 2 open\n";
-        assert_eq!(told(said), wanted);
+        assert_eq!(of(said), wanted);
     }
 
     #[test]
     fn a_bad_recording_writes_its_line_and_one_without_payouts_nothing() {
-        assert_eq!(told(""), "");
-        assert_eq!(told("tick 1000 x6\nstatus\ndispenser 15 15 15 15\n"), "");
-        assert_eq!(told(&format!("{PAID}raw 00 45")), "bad 22 at 52\n");
+        assert_eq!(of(""), "");
+        assert_eq!(of("tick 1000 x6\nstatus\ndispenser 15 15 15 15\n"), "");
+        assert_eq!(of(&format!("{PAID}raw 00 45")), "bad 22 at 52\n");
         assert_eq!(requests(&[2, 1, 0xFF]), "bad 23 at 2\n");
         assert_eq!(requests(&[2, 1, 2, 0x80, 0x00]), "bad 21 at 2\n");
-        assert_eq!(requests(&[2; 65_537]), "bad 24 at 0\n");
+        assert_eq!(requests(&[2; 65_537]), "bad 22 at 65536\n");
     }
 
     #[test]
@@ -87,9 +93,9 @@ mod tests {
         let both = "tick 1000 x6\n\
                     pay both 15 15\n\
                     dispenser 06 01 50 02 56 31 34 31 32 31 37 31 37 30 30 30 30 32 33 31 03 30\n";
-        assert_eq!(told(both), "56 upper 15 lower 15 handed 1 answered paid 12 17\n");
+        assert_eq!(of(both), "56 upper 15 lower 15 handed 1 answered paid 12 17\n");
         let lower = "tick 1000 x6\npay lower 9\ndispenser 06 01 50 02 55 30 39 30 30 33 31 39 39 03 0E\n";
-        assert_eq!(told(lower), "55 upper 0 lower 9 handed 1 answered paid 0 0\n");
+        assert_eq!(of(lower), "55 upper 0 lower 9 handed 1 answered paid 0 0\n");
     }
 
     #[test]
@@ -98,14 +104,14 @@ mod tests {
             let no = "dispenser 15\n".repeat(more);
             let asked = format!("tick 1000 x6\npay upper 1\n{no}");
             let line = format!("45 upper 1 lower 0 handed {}", more + 1);
-            assert_eq!(told(&asked), format!("{line} open\n"));
-            assert_eq!(told(&format!("{asked}dispenser 00\n")), format!("{line} unknown\n"));
-            assert_eq!(told(&format!("{asked}tick 1000 x6\n")), format!("{line} unknown\n"));
+            assert_eq!(of(&asked), format!("{line} open\n"));
+            assert_eq!(of(&format!("{asked}dispenser 00\n")), format!("{line} unknown\n"));
+            assert_eq!(of(&format!("{asked}tick 1000 x6\n")), format!("{line} unknown\n"));
             // late, our 15h, and the answer
             let late = "dispenser 06 01\ntick 200\ndispenser 01 50 02 45 30 31 30 31 30 30 30 30 03 15\n";
-            assert_eq!(told(&format!("{asked}{late}")), format!("{line} answered paid 1 0\n"));
+            assert_eq!(of(&format!("{asked}{late}")), format!("{line} answered paid 1 0\n"));
         }
-        assert_eq!(told("tick 1000 x6\npay upper 1\ndispenser 15 15 15 15\n"), "45 upper 1 lower 0 handed 4 refused\n");
+        assert_eq!(of("tick 1000 x6\npay upper 1\ndispenser 15 15 15 15\n"), "45 upper 1 lower 0 handed 4 refused\n");
     }
 
     #[test]
@@ -114,27 +120,27 @@ mod tests {
         for other in ["status", "purge", "test upper", "test lower"] {
             for said in ["dispenser 15 15 15 15", "dispenser 15 00", "tick 1000 x6", ""] {
                 let said = format!("{PAID}tick 1000 x6\n{other}\n{said}\n");
-                assert_eq!(told(&said), paid, "{said}");
+                assert_eq!(of(&said), paid, "{said}");
             }
         }
         let answered = "status\ndispenser 06 01 50 02 46 30 30 80 00 03 96\n";
-        assert_eq!(told(&format!("{PAID}tick 1000 x6\n{answered}")), paid);
+        assert_eq!(of(&format!("{PAID}tick 1000 x6\n{answered}")), paid);
         for declined in ["pay upper 1", "tick 1000 x6\npay upper 61", "tick 1000 x6\nrequest 45 1 1"] {
-            assert_eq!(told(&format!("{PAID}{declined}\n")), paid);
+            assert_eq!(of(&format!("{PAID}{declined}\n")), paid);
         }
         let open = "tick 1000 x6\npay lower 3\npay lower 4\n";
-        assert_eq!(told(open), "55 upper 0 lower 3 handed 1 open\n");
+        assert_eq!(of(open), "55 upper 0 lower 3 handed 1 open\n");
     }
 
     #[test]
     fn a_clear_and_a_stop_leave_what_is_kept() {
         let lost = "55 upper 0 lower 2 handed 1 unknown\n";
         let stopped = format!("{LOST}{LOST}");
-        assert_eq!(told(&stopped), lost.repeat(2));
+        assert_eq!(of(&stopped), lost.repeat(2));
         // the third payout gets 7
-        assert_eq!(told(&format!("{stopped}{LOST}")), lost.repeat(2));
-        assert_eq!(told(&format!("{stopped}clear\n")), lost.repeat(2));
-        assert_eq!(told(&format!("{stopped}clear\n{LOST}")), lost.repeat(3));
+        assert_eq!(of(&format!("{stopped}{LOST}")), lost.repeat(2));
+        assert_eq!(of(&format!("{stopped}clear\n")), lost.repeat(2));
+        assert_eq!(of(&format!("{stopped}clear\n{LOST}")), lost.repeat(3));
     }
 
     #[test]
@@ -147,7 +153,7 @@ mod tests {
             let lines: String = (payouts - kept + 1..=payouts)
                 .map(|k: u32| format!("45 upper {} lower 0 handed 4 refused\n", k.min(60)))
                 .collect();
-            assert_eq!(told(&said), lines, "{payouts}");
+            assert_eq!(of(&said), lines, "{payouts}");
             let sum: u32 = (1..=payouts).map(|k| k.min(60)).sum();
             let report = report::report(&text::recording(&said).unwrap());
             assert!(report.starts_with(&format!("upper asked {sum} paid 0 short 0 over 0 refused {sum} unknown 0 ")));

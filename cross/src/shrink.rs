@@ -64,11 +64,10 @@ fn without(parts: &[Vec<u8>], at: usize, size: usize) -> Vec<u8> {
 fn records(bytes: &[u8]) -> Vec<Vec<u8>> {
     let mut parts = Vec::new();
     let mut at = 0;
-    if let Ok(mut records) = recording::records(bytes) {
-        while let Some(Ok(_)) = records.next() {
-            parts.push(bytes[at..records.at()].to_vec());
-            at = records.at();
-        }
+    let mut records = recording::records(bytes);
+    while let Some(Ok(_)) = records.next() {
+        parts.push(bytes[at..records.at()].to_vec());
+        at = records.at();
     }
     parts.extend(bytes[at..].iter().map(|&byte| vec![byte]));
     parts

@@ -5,23 +5,20 @@ use crate::ccnet_frame::{self, Class, SYNC};
 use crate::dispenser::{self, Declined};
 use crate::dispenser_frame::{check, faults, read_answer, Answer, Code, Fault, Payment, OPENING};
 use crate::error_class::{ErrorClass, BESIDE, LISTED};
+use crate::generate::PIECE;
 use crate::kept::{Entry, Fate};
 use crate::misread::Errors;
 use crate::number;
 use crate::reach::{Place, Reached};
-use crate::recording::{self, Bad, Record};
+use crate::recording::{self, Bad, Pieces, Record};
 use crate::replay::{Bench, Played, Rooms};
 use crate::validator::{self, Bill, Damage};
 use crate::wrong_stops;
 
 /// What a recording reached, or why it is bad.
 pub fn reached(bytes: &[u8]) -> Reached<Place> {
-    let records = match recording::records(bytes) {
-        Ok(records) => records,
-        Err(bad) => return faulty(bytes, bad),
-    };
     let mut watch = Watch::new();
-    for record in records {
+    for record in recording::records(bytes) {
         match record {
             Ok(record) => watch.play(record),
             Err(bad) => return faulty(bytes, bad),
@@ -32,7 +29,28 @@ pub fn reached(bytes: &[u8]) -> Reached<Place> {
             watch.all.part(place, part);
         }
     }
+    long(&mut watch.all, bytes, None);
     watch.ended()
+}
+
+/// A recording that a program cannot hold in one piece.
+fn long(all: &mut Reached<Place>, bytes: &[u8], bad: Option<Bad>) {
+    if bytes.len() <= PIECE {
+        return;
+    }
+    all.part(Place::Long, bad.map_or(0, |bad| usize::from(bad.fault.number() - 20)));
+    let mut reading = Pieces::fresh();
+    // behind each piece but the last: the record that is begun
+    for piece in bytes[..bytes.len() - 1].chunks_exact(PIECE) {
+        reading.piece(piece, |_| {});
+        match reading.ended() {
+            Err(Bad { fault: recording::Fault::Cut, at }) if bad.is_some_and(|bad| bad.at == at) => {
+                all.part(Place::Across, 5)
+            }
+            Err(Bad { fault: recording::Fault::Cut, at }) => all.part(Place::Across, usize::from(bytes[at])),
+            _ => {}
+        }
+    }
 }
 
 // Bad recordings
@@ -40,10 +58,11 @@ pub fn reached(bytes: &[u8]) -> Reached<Place> {
 fn faulty(bytes: &[u8], bad: Bad) -> Reached<Place> {
     let mut all = Reached::nothing();
     match bad.fault {
-        recording::Fault::TooLong => all.mark(Place::Bad24),
+        recording::Fault::TooLong => unreachable!("no recording that is tried has 4,294,967,296 bytes"),
         recording::Fault::Unknown => unknown(&mut all, bytes, bad.at),
         recording::Fault::Number | recording::Fault::Cut => wrong_number(&mut all, bytes, bad),
     }
+    long(&mut all, bytes, Some(bad));
     all
 }
 
@@ -304,7 +323,7 @@ impl Watch {
             (Declined::Tick, _) => Place::Declined6,
             (Declined::Stopped, _) => return,
             (Declined::Spent | Declined::Room, _) => {
-                unreachable!("no recording holds 1,000,000 commands, and the rooms are large enough")
+                unreachable!("no recording that is tried holds 1,000,000 commands, and the rooms are large enough")
             }
         });
     }

@@ -94,7 +94,7 @@ fn events(recording: &[u8]) -> Vec<Event> {
     let (mut host, mut rooms, mut events) = (Bench::fresh(), Rooms::new(), Vec::new());
     // what came since the command was accepted
     let mut came = Vec::new();
-    for record in recording::records(recording).into_iter().flatten().flatten() {
+    for record in recording::records(recording).flatten() {
         let was_stopped = host.dispenser.is_stopped();
         let first = host.dispenser.phase() == crate::dispenser::Phase::First;
         let played = host.play(record, &mut rooms);

@@ -127,7 +127,7 @@ impl Replay {
     fn of(recording: &[u8], reading: Reading) -> Replay {
         let (bench, rooms) = (Bench::fresh(), Rooms::new());
         let mut replay = Replay { reading, bench, rooms, unknowns: 0, code: Code::Status, short: false };
-        for record in recording::records(recording).into_iter().flatten().flatten() {
+        for record in recording::records(recording).flatten() {
             replay.play(record);
         }
         replay

@@ -1,4 +1,3 @@
 -- What the proofs of `grading` share, and that no contract leaves a choice.
-pub mod Steps
 pub mod Loops
 pub mod Tied

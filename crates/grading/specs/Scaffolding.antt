@@ -1,59 +1,61 @@
 -- Scaffolding, which nobody has to believe: contracts of inner functions cite it, and no contract of a public function and no promise does.
--- The parts of the two sessions, which the replay keeps apart; the payer is the dispenser session, the taker the validator session.
-use Prim.Native.Nat.{ℕ}
-use mathlib.Core.List.{List}
-use Rattle.dispenser_rules.specs.Session.{bookedBy, requestBooked, placeAfter, writtenBy}
-use Rattle.dispenser_rules.specs.Requests.{unwritten, slotsAfter}
-use Rattle.dispenser_rules.specs.declared.requests.KeptRequest.{KeptRequest}
-use Rattle.dispenser_rules.specs.declared.requests.Place.{Place}
-use Rattle.dispenser_rules.specs.declared.requests.Written.{Written}
-use Rattle.dispenser_rules.specs.Errors.{erredBy}
-use Rattle.exchange_rules.specs.declared.line.Line.{Line}
-use Rattle.dispenser_rules.specs.declared.session.Asked.{Asked}
-use Rattle.validator_rules.specs.declared.bills.Bills.{Bills}
-use Rattle.validator_rules.specs.declared.line.Line.{Line as TakerLine}
-use Rattle.grading_rules.specs.Replay.{Desk}
-use Rattle.grading.specs.declared.desk.Run.{Run}
-use Rattle.grading.specs.declared.desk.Books.{Books}
-use Rattle.grading.specs.declared.desk.Entry.{Entry}
-use Rattle.grading.specs.declared.desk.Entry.the-variants.{Nothing, Asked as Opened, Heard as Closed}
+use Prim.Native.Nat.{ℕ, _≤_, _<_}
+use mathlib.Core.Path.{_≡_}
+use mathlib.Core.Bool.{Bool, true, false}
+use Rattle.recording.specs.Record.{mostBytes}
+use Rattle.recording.specs.declared.Fault.the-variants.{Long}
+use Rattle.recording.specs.declared.Place.{Place}
+use Rattle.recording.specs.declared.Place.the-variants.{Kind, Code, Upper, Lower, FromDispenser, Milliseconds, FromValidator, ToValidator, Broken}
+use Rattle.recording.specs.declared.Reader.{Reader}
+use Rattle.grading_rules.specs.Feeding.{brokenAt}
+use Rattle.grading_rules.specs.declared.desk.Desk.{Desk}
+use Rattle.grading_rules.specs.declared.desk.Replaying.{Replaying}
 
--- what changes with each record
-abbrev pub runOf : Line → Asked → TakerLine → ℕ → ℕ → Run
-runOf payer asked taker declined all = record { payer = payer; asked = asked; taker = taker; declined = declined; records = all }
+-- a replay that goes on, from its parts
+abbrev pub replayOn : Desk → Reader → ℕ → Replaying
+replayOn d r n = record { desk = d; reader = r; fed = n }
 
--- what a record books
-abbrev pub booked : Books → Asked → Entry → Books
-booked b c Nothing = b
-booked b c (Opened reply) = record { cassettes = requestBooked (b .cassettes) c reply; place = placeAfter (b .place) c reply; errors = erredBy (b .errors) reply }
-booked b c (Closed reply) = record { cassettes = bookedBy (b .cassettes) c reply; place = b .place; errors = erredBy (b .errors) reply }
+-- is a record begun, that is, is no kind due?
+abbrev pub isBegun : Place → Bool
+isBegun Kind = false
+isBegun Code = true
+isBegun Upper = true
+isBegun Lower = true
+isBegun FromDispenser = true
+isBegun Milliseconds = true
+isBegun FromValidator = true
+isBegun ToValidator = true
+isBegun (Broken why) = true
 
--- what it writes down of a request that was handed over n times; p is the place afterwards
-abbrev pub writtenOf : Place → Asked → ℕ → Entry → Written
-writtenOf p c n Nothing = unwritten
-writtenOf p c n (Opened reply) = writtenBy p c n reply
-writtenOf p c n (Closed reply) = writtenBy p c n reply
+-- no fault was met
+abbrev pub Unbroken : Place → Type 0
+Unbroken Kind = Unit {0}
+Unbroken Code = Unit {0}
+Unbroken Upper = Unit {0}
+Unbroken Lower = Unit {0}
+Unbroken FromDispenser = Unit {0}
+Unbroken Milliseconds = Unit {0}
+Unbroken FromValidator = Unit {0}
+Unbroken ToValidator = Unit {0}
+Unbroken (Broken why) = ⊥
 
--- the books, and the slots of the kept requests, which stand apart
-pub record Shelf : Type 0 where
-  pub books : Books
-  pub slots : List KeptRequest
+-- what a byte past the limit leaves
+abbrev pub pastIn : Place → ℕ → Replaying
+pastIn Kind at = brokenAt Long mostBytes
+pastIn Code at = brokenAt Long mostBytes
+pastIn Upper at = brokenAt Long mostBytes
+pastIn Lower at = brokenAt Long mostBytes
+pastIn FromDispenser at = brokenAt Long mostBytes
+pastIn Milliseconds at = brokenAt Long mostBytes
+pastIn FromValidator at = brokenAt Long mostBytes
+pastIn ToValidator at = brokenAt Long mostBytes
+pastIn (Broken why) at = brokenAt why at
 
-abbrev pub shelf : Books → List KeptRequest → Shelf
-shelf b ks = record { books = b; slots = ks }
+abbrev pub pastLimit : Replaying → Replaying
+pastLimit w = pastIn (w .reader .place) (w .reader .start)
 
-unfoldable pub entered : Shelf → Asked → ℕ → Entry → Shelf
-entered a c n e = shelf (booked (a .books) c e) (slotsAfter (a .slots) (writtenOf (booked (a .books) c e .place) c n e))
-
--- the parts, joined: what changes with each record, books and bills, the gathering stores, the rooms
-abbrev pub joined : Run → Shelf → List Bills → List ℕ → List ℕ → List ℕ → List ℕ → Desk
-joined r a bs store store255 room room255 =
-    record {
-      dispenser = record { line = r .payer; asked = r .asked; account = record { cassettes = a .books .cassettes; requests = record { place = a .books .place; slots = a .slots } }; store = store };
-      validator = record { line = r .taker; bills = bs; store = store255 };
-      errors = a .books .errors;
-      room = room;
-      room255 = room255;
-      declined = r .declined;
-      records = r .records;
-    }
+-- the lesser of two numbers
+pub record Least (a b r : ℕ) : Type 0 where
+  pub first : r ≤ a
+  pub second : r ≤ b
+  pub other : r < a → r ≡ b

@@ -2,4 +2,6 @@
 // it.
 mod desk;
 
+pub use desk::ended;
+pub use desk::feed;
 pub use desk::replay;

@@ -1,2 +1,4 @@
--- The theorem of `grading_rules`.
+-- The theorems of `grading_rules`.
+pub mod Cuts
+pub mod Taken
 pub mod Recorded

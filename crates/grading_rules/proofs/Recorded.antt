@@ -1,11 +1,12 @@
 -- The sessions after a replay are those that the recording's calls lead to, so that what holds after any calls at all holds of what is reported.
 -- Assumes nothing.
 use Prim.Native.Nat.{ℕ, _+_}
-use mathlib.Core.Path.{_≡_, refl, ap, ap₂, _∙_}
+use mathlib.Core.Path.{_≡_, refl, sym, ap, ap₂, _∙_, subst}
 use mathlib.Core.Bool.{Bool, true, false, cond}
-use mathlib.Core.List.{List, [], _∷_}
+use mathlib.Core.List.{List, [], _∷_, flatten}
 use native.Mathlib.Omega.{arith}
 use lib.ListN.{length}
+use Rattle.numbers.specs.Promises.{AllBytes}
 use Rattle.refusals.proofs.Rules.{either-way}
 use Rattle.dispenser_rules.specs.Session.{refusedStep, clearRefusals, clearStep, freshSession, sessionClear}
 use Rattle.ledger.specs.Calls.{run as ran}
@@ -29,11 +30,14 @@ use Rattle.recording.proofs.Exact.{exactly-when}
 use Rattle.recording.specs.Reading.{records, readRecording}
 use Rattle.recording.specs.declared.Record.{Record}
 use Rattle.recording.specs.declared.Record.the-variants.{Request, DispenserByte, Tick, ValidatorByte, Command, Clear}
-use Rattle.grading_rules.specs.Replay.{Desk, freshDesk, given, run, told, replayed, replayOf}
-use Rattle.grading_rules.specs.Promises.{calls, takerCalls, refuses, refusals, AsRecorded}
+use Rattle.grading_rules.specs.Replay.{freshDesk, given, run, told, replayed}
+use Rattle.grading_rules.specs.Feeding.{replayOf}
+use Rattle.grading_rules.specs.Promises.{calls, takerCalls, refuses, refusals, Recorded, AsRecorded}
+use Rattle.grading_rules.specs.declared.desk.Desk.{Desk}
 use Rattle.grading_rules.specs.declared.findings.Findings.{Findings}
+use Rattle.grading_rules.proofs.Cuts.{as-read, however-cut}
 
-pub dispenser-ran : (d : Desk) (xs : List Record) → run d xs .dispenser ≡ ran host (d .dispenser) (calls d xs)
+pub dispenser-ran : (d : Desk) (xs : List Record) → run d xs .dispenser ≡ ran host (d .dispenser) (calls xs)
 unfolding run calls ran
 dispenser-ran d [] = refl
 dispenser-ran d (Request code upper lower ∷ xs) = dispenser-ran (given d (Request code upper lower)) xs
@@ -43,7 +47,7 @@ dispenser-ran d (ValidatorByte b ∷ xs) = dispenser-ran (given d (ValidatorByte
 dispenser-ran d (Command code ∷ xs) = dispenser-ran (given d (Command code)) xs
 dispenser-ran d (Clear ∷ xs) = dispenser-ran (given d Clear) xs
 
-pub validator-ran : (d : Desk) (xs : List Record) (i : AllInRange xs) → run d xs .validator ≡ ran takerHost (d .validator) (takerCalls d xs i)
+pub validator-ran : (d : Desk) (xs : List Record) (i : AllInRange xs) → run d xs .validator ≡ ran takerHost (d .validator) (takerCalls xs i)
 unfolding run takerCalls ran
 validator-ran d [] i = refl
 validator-ran d (Request code upper lower ∷ xs) i = validator-ran (given d (Request code upper lower)) xs (i .1)
@@ -59,7 +63,7 @@ unfolding sessionClear clearStep
 clear-errors e s = either-way (λ (w : Step). e ≡ erredBy e (w .reply)) (clearRefusals (s .line)) (refusedStep (s .line)) _ (λ why. refl) (λ n. refl)
 
 -- the last errors are those after the same calls
-errors-ran : (d : Desk) (xs : List Record) → run d xs .errors ≡ errorsFrom (d .dispenser) (d .errors) (calls d xs)
+errors-ran : (d : Desk) (xs : List Record) → run d xs .errors ≡ errorsFrom (d .dispenser) (d .errors) (calls xs)
 unfolding run calls errorsFrom
 errors-ran d [] = refl
 errors-ran d (Request code upper lower ∷ xs) = errors-ran (given d (Request code upper lower)) xs
@@ -68,7 +72,7 @@ errors-ran d (Tick ms ∷ xs) = errors-ran (given d (Tick ms)) xs
 errors-ran d (ValidatorByte b ∷ xs) = errors-ran (given d (ValidatorByte b)) xs
 errors-ran d (Command code ∷ xs) = errors-ran (given d (Command code)) xs
 errors-ran d (Clear ∷ xs) =
-    errors-ran (given d Clear) xs ∙ ap (λ (e : LastErrors). errorsFrom (sessionClear (d .dispenser) .session) e (calls (given d Clear) xs)) (clear-errors (d .errors) (d .dispenser))
+    errors-ran (given d Clear) xs ∙ ap (λ (e : LastErrors). errorsFrom (sessionClear (d .dispenser) .session) e (calls xs)) (clear-errors (d .errors) (d .dispenser))
 
 -- ---- counts
 
@@ -106,8 +110,7 @@ records-ran d (x ∷ xs) = omega (arith, records-ran (given d x) xs, given-recor
 -- ---- a good recording
 
 pub good-replay : (s : List ℕ) (xs : List Record) → readRecording s ≡ records xs → replayOf s ≡ told (run freshDesk xs)
-unfolding replayOf
-good-replay s xs e = ap (replayed freshDesk) e
+good-replay s xs e = as-read s ∙ ap (replayed freshDesk) e
 
 fresh-parts : (freshDesk .dispenser ≡ freshSession) × (freshDesk .validator ≡ freshTaker)
 unfolding freshDesk
@@ -121,17 +124,18 @@ fresh-counts : (freshDesk .declined ≡ 0) × (freshDesk .records ≡ 0)
 unfolding freshDesk
 fresh-counts = (refl, refl)
 
-pub session-ran : (xs : List Record) → run freshDesk xs .dispenser ≡ ran host freshSession (calls freshDesk xs)
-session-ran xs = dispenser-ran freshDesk xs ∙ ap (λ (s : Session). ran host s (calls freshDesk xs)) (fresh-parts .0)
+pub session-ran : (xs : List Record) → run freshDesk xs .dispenser ≡ ran host freshSession (calls xs)
+session-ran xs = dispenser-ran freshDesk xs ∙ ap (λ (s : Session). ran host s (calls xs)) (fresh-parts .0)
 
-errors-told : (xs : List Record) → run freshDesk xs .errors ≡ errorsFrom freshSession noErrors (calls freshDesk xs)
-errors-told xs = errors-ran freshDesk xs ∙ ap₂ (λ (s : Session) (e : LastErrors). errorsFrom s e (calls freshDesk xs)) (fresh-parts .0) fresh-errors
+errors-told : (xs : List Record) → run freshDesk xs .errors ≡ errorsFrom freshSession noErrors (calls xs)
+errors-told xs = errors-ran freshDesk xs ∙ ap₂ (λ (s : Session) (e : LastErrors). errorsFrom s e (calls xs)) (fresh-parts .0) fresh-errors
 
-pub taker-ran : (xs : List Record) (i : AllInRange xs) → run freshDesk xs .validator ≡ ran takerHost freshTaker (takerCalls freshDesk xs i)
-taker-ran xs i = validator-ran freshDesk xs i ∙ ap (λ (s : Taker). ran takerHost s (takerCalls freshDesk xs i)) (fresh-parts .1)
+pub taker-ran : (xs : List Record) (i : AllInRange xs) → run freshDesk xs .validator ≡ ran takerHost freshTaker (takerCalls xs i)
+taker-ran xs i = validator-ran freshDesk xs i ∙ ap (λ (s : Taker). ran takerHost s (takerCalls xs i)) (fresh-parts .1)
 
-pub as-recorded : AsRecorded
-as-recorded s xs h e =
+-- in one piece
+pub as-recorded-whole : (s : List ℕ) (xs : List Record) → AllBytes s → readRecording s ≡ records xs → (i : AllInRange xs) × Recorded (replayOf s) xs i
+as-recorded-whole s xs h e =
     let i = exactly-when .good s xs h .0 e .1 in
     let g = good-replay s xs e in (
       i,
@@ -139,16 +143,22 @@ as-recorded s xs h e =
         account = λ c.
             ap (λ (f : Findings). plain (cassette (f .account) c)) g
             ∙ ap (λ (w : Session). plain (cassette (w .account) c)) (session-ran xs)
-            ∙ demand3 .account (calls freshDesk xs) c;
-        balance = demand3 .balance (calls freshDesk xs);
+            ∙ demand3 .account (calls xs) c;
+        balance = demand3 .balance (calls xs);
         kept =
             ap (λ (f : Findings). oldestFirst (f .account .requests)) g
             ∙ ap (λ (w : Session). oldestFirst (w .account .requests)) (session-ran xs)
-            ∙ requests-by-history .kept (calls freshDesk xs);
+            ∙ requests-by-history .kept (calls xs);
         errors-told = λ c.
-            ap (λ (f : Findings). lastOf (f .errors) c) g ∙ ap (λ (e : LastErrors). lastOf e c) (errors-told xs) ∙ errors-by-history (calls freshDesk xs) c;
-        bills-told = λ y l. rw (g, taker-ran xs i) (kept-by-history .bills (takerCalls freshDesk xs i) y l);
+            ap (λ (f : Findings). lastOf (f .errors) c) g ∙ ap (λ (e : LastErrors). lastOf e c) (errors-told xs) ∙ errors-by-history (calls xs) c;
+        bills-told = λ y l. rw (g, taker-ran xs i) (kept-by-history .bills (takerCalls xs i) y l);
         declined = ap (λ (f : Findings). f .declined) g ∙ declined-ran freshDesk xs ∙ omega (arith, fresh-counts .0);
         all = ap (λ (f : Findings). f .records) g ∙ records-ran freshDesk xs ∙ omega (arith, fresh-counts .1);
       },
     )
+
+-- in any pieces
+pub as-recorded : AsRecorded
+as-recorded ps xs h e =
+    let r = as-recorded-whole (flatten ps) xs h e in
+    (r .0, subst (λ (f : Findings). Recorded f xs (r .0)) (sym (however-cut .same ps)) (r .1))

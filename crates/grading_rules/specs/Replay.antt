@@ -18,27 +18,24 @@ use Rattle.validator_rules.specs.Session.{After as TakerAfter, freshSession as 
 use Rattle.validator_rules.specs.declared.session.Reply.{Reply as TakerReply}
 use Rattle.validator_rules.specs.declared.session.Reply.the-variants.{NotDone as TakerNotDone, Done as TakerDone}
 use Rattle.validator_rules.specs.declared.session.Session.{Session as Taker}
-use Rattle.recording.specs.Reading.{Reading, records, bad, readRecording}
+use Rattle.recording.specs.Reading.{Reading, records, bad}
 use Rattle.recording.specs.declared.Fault.{Fault}
 use Rattle.recording.specs.declared.Record.{Record}
 use Rattle.recording.specs.declared.Record.the-variants.{Request, DispenserByte, Tick, ValidatorByte, Command, Clear}
+use Rattle.grading_rules.specs.declared.desk.Desk.{Desk}
 use Rattle.grading_rules.specs.declared.findings.Ending.the-variants.{Good, Bad}
 use Rattle.grading_rules.specs.declared.findings.Findings.{Findings}
 
--- both sessions, the last error of each cassette, the room that each session sends into, as it was left, and the records so far: those declined, and all
-pub record Desk : Type 0 where
-  pub dispenser : Session
-  pub validator : Taker
-  pub errors : LastErrors
-  pub room : List ℕ
-  pub room255 : List ℕ
-  pub declined : ℕ
-  pub records : ℕ
-
--- both fresh, each with the least room that it can send into
+-- both fresh
 unfoldable pub freshDesk : Desk
-freshDesk =
-    record { dispenser = freshSession; validator = freshTaker; errors = noErrors; room = replicate leastRoom 0; room255 = replicate takerRoom 0; declined = 0; records = 0 }
+freshDesk = record { dispenser = freshSession; validator = freshTaker; errors = noErrors; declined = 0; records = 0 }
+
+-- each call is lent the least room that its session can send into, all zero
+abbrev pub lentRoom : List ℕ
+lentRoom = replicate leastRoom 0
+
+abbrev pub lentRoom255 : List ℕ
+lentRoom255 = replicate takerRoom 0
 
 -- a session refused
 abbrev pub payerDeclines : Reply → Bool
@@ -50,40 +47,32 @@ takerDeclines (TakerNotDone why) = true
 takerDeclines (TakerDone n c) = false
 
 -- one record more: "Each record refused by a session counts once as declined."
-abbrev pub counting : Bool → Desk → Session → Taker → LastErrors → List ℕ → List ℕ → Desk
-counting refused d s v e room room255 =
-    record {
-      dispenser = s;
-      validator = v;
-      errors = e;
-      room = room;
-      room255 = room255;
-      declined = cond refused (d .declined + 1) (d .declined);
-      records = d .records + 1;
-    }
+abbrev pub counting : Bool → Desk → Session → Taker → LastErrors → Desk
+counting refused d s v e =
+    record { dispenser = s; validator = v; errors = e; declined = cond refused (d .declined + 1) (d .declined); records = d .records + 1 }
 
 -- what the dispenser session made of it, or the validator session, or both
 abbrev pub byDispenser : Desk → After → Desk
-byDispenser d w = counting (payerDeclines (w .reply)) d (w .session) (d .validator) (erredBy (d .errors) (w .reply)) (w .room) (d .room255)
+byDispenser d w = counting (payerDeclines (w .reply)) d (w .session) (d .validator) (erredBy (d .errors) (w .reply))
 
 -- the operator's clear is lent no room, and closes nothing
 abbrev pub byOperator : Desk → After → Desk
-byOperator d w = counting (payerDeclines (w .reply)) d (w .session) (d .validator) (d .errors) (d .room) (d .room255)
+byOperator d w = counting (payerDeclines (w .reply)) d (w .session) (d .validator) (d .errors)
 
 abbrev pub byValidator : Desk → TakerAfter → Desk
-byValidator d v = counting (takerDeclines (v .reply)) d (d .dispenser) (v .session) (d .errors) (d .room) (v .room)
+byValidator d v = counting (takerDeclines (v .reply)) d (d .dispenser) (v .session) (d .errors)
 
 abbrev pub byBoth : Desk → After → TakerAfter → Desk
 byBoth d w v =
-    counting (payerDeclines (w .reply) || takerDeclines (v .reply)) d (w .session) (v .session) (erredBy (d .errors) (w .reply)) (w .room) (v .room)
+    counting (payerDeclines (w .reply) || takerDeclines (v .reply)) d (w .session) (v .session) (erredBy (d .errors) (w .reply))
 
 -- a record, given to the session that it is for: "2 milliseconds (given to both sessions)"; a request to the validator has no data; the dispenser's line alone is cleared
 abbrev pub given : Desk → Record → Desk
-given d (Request code upper lower) = byDispenser d (sessionRequest (d .dispenser) code upper lower (d .room))
-given d (DispenserByte b) = byDispenser d (sessionByte (d .dispenser) b (d .room))
-given d (Tick ms) = byBoth d (sessionTick (d .dispenser) ms (d .room)) (takerTick (d .validator) ms (d .room255))
-given d (ValidatorByte b) = byValidator d (takerByte (d .validator) b (d .room255))
-given d (Command code) = byValidator d (takerRequest (d .validator) code [] (d .room255))
+given d (Request code upper lower) = byDispenser d (sessionRequest (d .dispenser) code upper lower lentRoom)
+given d (DispenserByte b) = byDispenser d (sessionByte (d .dispenser) b lentRoom)
+given d (Tick ms) = byBoth d (sessionTick (d .dispenser) ms lentRoom) (takerTick (d .validator) ms lentRoom255)
+given d (ValidatorByte b) = byValidator d (takerByte (d .validator) b lentRoom255)
+given d (Command code) = byValidator d (takerRequest (d .validator) code [] lentRoom255)
 given d Clear = byOperator d (sessionClear (d .dispenser))
 
 -- records, one after the other
@@ -103,6 +92,3 @@ badFindings why at = record { account = freshAccount; errors = noErrors; bills =
 abbrev pub replayed : Desk → Reading → Findings
 replayed d (records xs) = told (run d xs)
 replayed d (bad why at) = badFindings why at
-
-unfoldable pub replayOf : List ℕ → Findings
-replayOf s = replayed freshDesk (readRecording s)

@@ -5,21 +5,22 @@ use mathlib.Core.List.{List, [], _∷_, _++_, append-assoc, append-nil}
 use native.Mathlib.Nat.{le-refl}
 use native.Mathlib.Omega.{arith}
 use lib.ListN.{length, take, drop, length-append, length-drop, take-append-drop}
-use lib.Seq.{length-take-le, drop-drop}
+use lib.Seq.{length-take-le, take-all, drop-drop}
 use Rattle.refusals.specs.Rules.{under, atMost}
 use Rattle.numbers.specs.Promises.{AllBytes}
 use Rattle.refusals.proofs.Rules.{by-cases}
 use Rattle.recording.specs.Record.{faultNumber, mostBytes, numbersOf, isKind, howMany, laidNumbers, recordBytes, InRange, laid, AllInRange}
-use Rattle.recording.specs.Reading.{Reading, records, bad, freshReader, ended, also, went, readingFrom}
+use Rattle.recording.specs.Reading.{Reading, records, bad, freshReader, ended, also, went, readingFrom, readRecording}
 use Rattle.recording.specs.Taking.{foundAt}
-use Rattle.recording.specs.Promises.{Faulty, kind, value, number, cut, Breaks, TakenAtOnce, ExactlyWhen}
+use Rattle.recording.specs.Promises.{Faulty, kind, value, number, cut, Breaks, TakenAtOnce, AtOnce, bad-number, unknown, Earlier, ExactlyWhen}
 use Rattle.recording.specs.declared.Fault.{Fault}
-use Rattle.recording.specs.declared.Fault.the-variants.{Long}
+use Rattle.recording.specs.declared.Fault.the-variants.{BadNumber, Cut, Unknown, Long}
 use Rattle.recording.specs.declared.Record.{Record}
 use Rattle.recording.specs.declared.Step.{Step}
 use Rattle.recording.specs.declared.taking.NextRecord.{NextRecord}
 use Rattle.recording.specs.declared.taking.NextRecord.the-variants.{Whole, Bad}
-use Rattle.recording.proofs.Folds.{reading-nil, reading-cons, reading-short, reading-long}
+use Rattle.recording.proofs.Folds.{reading-nil, reading-cons, reading-short}
+use Rattle.recording.proofs.Limit.{passed, passed-at-once, reading-long}
 use Rattle.recording.proofs.Trips.{laid-none, bytes-drop, kind-turn, kind-other, after-turn, Rest, whole, fault, rests}
 use Rattle.recording.proofs.Starts.{whole-read, bad-says}
 use Rattle.recording.proofs.Back.{length-record, bytes-record, reads-back, alsos, alsos-bad, alsos-none, records-back, faulty-back}
@@ -245,25 +246,106 @@ not-long (value k ns t h l b n) e = omega (arith, ap faultNumber e)
 not-long (number k ns t h l b n) e = omega (arith, ap faultNumber e)
 not-long (cut k ns t h l b n) e = omega (arith, ap faultNumber e)
 
+-- what bytes up to the limit say, where others follow them: no records, and a fault that a byte shows where it was there before
+passed-none : (g : Reading) {xs : List Record} → passed g ≡ records xs → ⊥
+passed-none (records xs) e = apart e
+passed-none (bad BadNumber at) e = apart e
+passed-none (bad Cut at) e = apart e
+passed-none (bad Unknown at) e = apart e
+passed-none (bad Long at) e = apart e
+
+passed-from : {why : Fault} (g : Reading) (at : ℕ) → AtOnce why → passed g ≡ bad why at → g ≡ bad why at
+passed-from (records xs) at bad-number e = let z : _≡_ {A = ℕ} 0 1 = cc in absurd (omega arith)
+passed-from (records xs) at unknown e = let z : _≡_ {A = ℕ} 0 1 = cc in absurd (omega arith)
+passed-from (bad BadNumber p) at a e = e
+passed-from (bad Cut p) at bad-number e = let z : _≡_ {A = ℕ} 0 1 = cc in absurd (omega arith)
+passed-from (bad Cut p) at unknown e = let z : _≡_ {A = ℕ} 0 1 = cc in absurd (omega arith)
+passed-from (bad Unknown p) at a e = e
+passed-from (bad Long p) at a e = e
+
+passed-cut : (g : Reading) (at : ℕ) → passed g ≡ bad Cut at → ⊥
+passed-cut (records xs) at e = let z : _≡_ {A = ℕ} 0 1 = cc in omega arith
+passed-cut (bad BadNumber p) at e = let z : _≡_ {A = ℕ} 0 1 = cc in omega arith
+passed-cut (bad Cut p) at e = let z : _≡_ {A = ℕ} 0 1 = cc in omega arith
+passed-cut (bad Unknown p) at e = let z : _≡_ {A = ℕ} 0 1 = cc in omega arith
+passed-cut (bad Long p) at e = let z : _≡_ {A = ℕ} 0 1 = cc in omega arith
+
+-- the place of 24, where no byte before says it
+passed-long : (g : Reading) (at : ℕ) → ((p : ℕ) → g ≡ bad Long p → ⊥) → passed g ≡ bad Long at → (at ≡ mostBytes) × ((why : Fault) (p : ℕ) → AtOnce why → g ≡ bad why p → ⊥)
+passed-long (records xs) at n e = (let z : mostBytes ≡ at = cc in sym z, λ why p a q. apart (sym q))
+passed-long (bad BadNumber p) at n e = let z : _≡_ {A = ℕ} 0 1 = cc in absurd (omega arith)
+passed-long (bad Cut p) at n e = (let z : mostBytes ≡ at = cc in sym z, λ why p a q. not-cut a q)
+  where
+    not-cut : {why : Fault} {p q : ℕ} → AtOnce why → bad Cut p ≡ bad why q → ⊥
+    not-cut bad-number e = let z : _≡_ {A = ℕ} 0 1 = cc in omega arith
+    not-cut unknown e = let z : _≡_ {A = ℕ} 0 1 = cc in omega arith
+passed-long (bad Unknown p) at n e = let z : _≡_ {A = ℕ} 0 1 = cc in absurd (omega arith)
+passed-long (bad Long p) at n e = absurd (n p refl)
+
+long-passed : (g : Reading) → ((p : ℕ) → g ≡ bad Long p → ⊥) → ((why : Fault) (p : ℕ) → AtOnce why → g ≡ bad why p → ⊥) → passed g ≡ bad Long mostBytes
+long-passed (records xs) n f = refl
+long-passed (bad BadNumber p) n f = absurd (f BadNumber p bad-number refl)
+long-passed (bad Cut p) n f = refl
+long-passed (bad Unknown p) n f = absurd (f Unknown p unknown refl)
+long-passed (bad Long p) n f = absurd (n p refl)
+
+module _ (s : List ℕ) (h : AllBytes s) where
+  said-long : (at : ℕ) → readingFrom freshReader 0 s ≡ bad Long at → ⊥
+  said-long at e = not-long (broken-to s Long at h e .fault) refl
+
+-- the bytes up to the limit
+module _ (s : List ℕ) (h : AllBytes s) where
+  few : length s ≤ mostBytes → take mostBytes s ≡ s
+  few l = take-all mostBytes s l
+
+  front : AllBytes (take mostBytes s)
+  front = bytes-take mostBytes s h
+
+  earlier-to : (why : Fault) (at : ℕ) → AtOnce why → readRecording s ≡ bad why at → Breaks why at (take mostBytes s)
+  earlier-to why at a e =
+      by-cases (under mostBytes (length s))
+      (λ l. broken-to (take mostBytes s) why at front (passed-from (readingFrom freshReader 0 (take mostBytes s)) at a (sym (reading-long s l) ∙ e)))
+      (λ n. let l : length s ≤ mostBytes = omega arith in subst (Breaks why at) (sym (few l)) (broken-to s why at h (sym (reading-short s l) ∙ e)))
+
+  earlier-from : (why : Fault) (at : ℕ) → AtOnce why → Breaks why at (take mostBytes s) → readRecording s ≡ bad why at
+  earlier-from why at a b =
+      let e = broken-from (take mostBytes s) why at b in
+      by-cases (under mostBytes (length s))
+      (λ l. reading-long s l ∙ ap passed e ∙ passed-at-once a at)
+      (λ n. let l : length s ≤ mostBytes = omega arith in reading-short s l ∙ ap (readingFrom freshReader 0) (sym (few l)) ∙ e)
+
+  long-to : (at : ℕ) → readRecording s ≡ bad Long at → (mostBytes < length s) × (at ≡ mostBytes) × (Earlier s → ⊥)
+  long-to at e =
+      by-cases (under mostBytes (length s))
+      (λ l.
+      let r = passed-long (readingFrom freshReader 0 (take mostBytes s)) at (said-long (take mostBytes s) front) (sym (reading-long s l) ∙ e) in
+      (l, r .0, λ y. r .1 (y .0) (y .1 .0) (y .1 .1 .0) (broken-from (take mostBytes s) (y .0) (y .1 .0) (y .1 .1 .1))))
+      (λ n. absurd (said-long s h at (sym (reading-short s (omega arith)) ∙ e)))
+
+  long-from : (at : ℕ) → mostBytes < length s → at ≡ mostBytes → (Earlier s → ⊥) → readRecording s ≡ bad Long at
+  long-from at l e n =
+      reading-long s l
+      ∙ long-passed (readingFrom freshReader 0 (take mostBytes s)) (said-long (take mostBytes s) front)
+      (λ why p a q. n (why, (p, (a, broken-to (take mostBytes s) why p front q))))
+      ∙ ap (bad Long) (sym e)
+
 pub exactly-when : ExactlyWhen
 exactly-when =
     record {
       good = λ s xs h. (
         λ e.
             by-cases (under mostBytes (length s))
-            (λ l. absurd (apart (sym (reading-long s l) ∙ e)))
+            (λ l. absurd (passed-none (readingFrom freshReader 0 (take mostBytes s)) (sym (reading-long s l) ∙ e)))
             (λ n. let l : length s ≤ mostBytes = omega arith in let r = good-to s xs h (sym (reading-short s l) ∙ e) in (l, r .0, r .1)),
         λ r. reading-short s (r .0) ∙ good-from s xs (r .1) (r .2),
       );
-      broken = λ s why at h l. (
-        λ e. broken-to s why at h (sym (reading-short s l) ∙ e),
-        λ b. reading-short s l ∙ broken-from s why at b,
-      );
-      long = λ s at h. (
+      broken = λ s why at h a. (earlier-to s h why at a, earlier-from s h why at a);
+      cut = λ s at h. (
         λ e.
             by-cases (under mostBytes (length s))
-            (λ l. let r : bad Long 0 ≡ bad Long at = sym (reading-long s l) ∙ e in let z : 0 ≡ at = cc in (l, sym z))
-            (λ n. absurd (not-long (broken-to s Long at h (sym (reading-short s (omega arith)) ∙ e) .fault) refl)),
-        λ r. reading-long s (r .0) ∙ ap (bad Long) (sym (r .1)),
+            (λ l. absurd (passed-cut (readingFrom freshReader 0 (take mostBytes s)) at (sym (reading-long s l) ∙ e)))
+            (λ n. let l : length s ≤ mostBytes = omega arith in (l, broken-to s Cut at h (sym (reading-short s l) ∙ e))),
+        λ r. reading-short s (r .0) ∙ broken-from s Cut at (r .1),
       );
+      long = λ s at h. (long-to s h at, λ r. long-from s h at (r .0) (r .1) (r .2));
     }

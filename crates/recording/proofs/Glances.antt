@@ -1,6 +1,7 @@
 -- What is found where a record is due: byte by byte, and for records of two to four bytes at a glance. Assumes nothing.
 use Prim.Native.Nat.{ℕ, suc, _+_, _*_, _-_, _%_, _≤_, _<_}
 use mathlib.Core.Path.{_≡_, refl, sym, ap, _∙_}
+use mathlib.Core.Bool.{Bool, true, false, cond}
 use mathlib.Core.List.{List, [], _∷_}
 use native.Mathlib.Numerals.{add-one}
 use native.Mathlib.Omega.{arith}
@@ -12,7 +13,7 @@ use Rattle.numbers.specs.declared.Group.{Group}
 use Rattle.numbers.specs.declared.Group.the-variants.{More as OneMore, Last}
 use Rattle.numbers.proofs.Groups.{group-more, group-last, next-begun}
 use Rattle.recording.specs.Reading.{freshReader, awaiting, grown, nextNumber, more, kindByte, numbered, requestRead, groupRead, grouped, readByte}
-use Rattle.recording.specs.Taking.{settled, foundFrom, foundAt}
+use Rattle.recording.specs.Taking.{settled, foundFrom, foundAt, glancesIn}
 use Rattle.recording.specs.Scaffolding.{placeOf, lastDue}
 use Rattle.recording.specs.declared.Fault.{Fault}
 use Rattle.recording.specs.declared.Fault.the-variants.{Cut}
@@ -41,9 +42,8 @@ found-step r at n b s t e = ap (λ (t : Step). settled (t .outcome) (suc n) (fou
 pub found-end : (r : Reader) (at n : ℕ) (s : List ℕ) (i : ℕ) → length s ≤ i → foundFrom r at n (drop i s) ≡ Bad Cut
 found-end r at n s i h = ap (foundFrom r at n) (drop-of-length-le s h) ∙ found-nil r at n
 
-pub found-start : (s : List ℕ) (at : ℕ) → foundFrom freshReader at (at - at) (drop at s) ≡ foundAt s at
-unfolding foundAt
-found-start s at = let e : at - at ≡ 0 = omega arith in ap (λ (n : ℕ). foundFrom freshReader at n (drop at s)) e
+pub found-start : (r : Reader) (s : List ℕ) (at : ℕ) → foundFrom r at (at - at) (drop at s) ≡ foundFrom r at 0 (drop at s)
+found-start r s at = let e : at - at ≡ 0 = omega arith in ap (λ (n : ℕ). foundFrom r at n (drop at s)) e
 
 -- the byte at i, whose step is t
 pub found-one : (r : Reader) (s : List ℕ) (i n : ℕ) → i < length s → (t : Step) → t ≡ readByte r i (getD s i 0)
@@ -172,3 +172,16 @@ module _ (s : List ℕ) (at : ℕ) (h : at + 4 ≤ length s) where
       ∙ sym (of-four at (getD s (at + 1) 0) (getD s (at + 2) 0) (getD s (at + 3) 0) c u l (drop (at + 4) s))
       ∙ ap (λ (z : ℕ). foundFrom freshReader at 0 (z ∷ getD s (at + 1) 0 ∷ getD s (at + 2) 0 ∷ getD s (at + 3) 0 ∷ drop (at + 4) s)) (sym k)
       ∙ ap (foundFrom freshReader at 0) (sym four)
+
+-- ---- a glance in a piece
+
+-- four bytes stand there, and no record was cut
+pub glance-fits : (cut : Bool) (s : List ℕ) (n at : ℕ) → at < n → n ≤ glancesIn cut s → at + 4 ≤ length s
+glance-fits true s n at h l = absurd (omega (arith, h, l))
+glance-fits false s n at h l = omega (arith, h, l)
+
+pub glance-found : (cut : Bool) (begun : Reader) (s : List ℕ) (n at : ℕ) → at < n → n ≤ glancesIn cut s → {f : NextRecord}
+    → f ≡ foundAt s at → f ≡ foundFrom (cond cut begun freshReader) at 0 (drop at s)
+unfolding foundAt
+glance-found true begun s n at h l e = absurd (omega (arith, h, l))
+glance-found false begun s n at h l e = e

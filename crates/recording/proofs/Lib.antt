@@ -7,5 +7,7 @@ pub mod Trips
 pub mod Back
 pub mod Glances
 pub mod Starts
+pub mod Limit
+pub mod Pieces
 pub mod Exact
 pub mod Tied

@@ -6,9 +6,9 @@ use denote.Enum.Declared.{tagOf}
 use native.Mathlib.Omega.{arith}
 use types.Run.{OneOf, hit, miss}
 use Rattle.recording.specs.Record.{isKind}
-use Rattle.recording.specs.Reading.{awaiting, more, refusedAt, kindByte, grouped, byteIn, readByte, endedIn, ended}
+use Rattle.recording.specs.Reading.{awaiting, more, refusedAt, kindByte, grouped, byteIn, readByte, endedIn, ended, pastIn}
 use Rattle.recording.specs.Scaffolding.{placeOf}
-use Rattle.recording.specs.declared.Fault.the-variants.{Cut, Unknown}
+use Rattle.recording.specs.declared.Fault.the-variants.{Cut, Unknown, Long}
 use Rattle.recording.specs.declared.Place.{Place}
 use Rattle.recording.specs.declared.Place.the-variants.{Kind, Code, Upper, Lower, FromDispenser, Milliseconds, FromValidator, ToValidator, Broken}
 use Rattle.recording.specs.declared.Reader.{Reader}
@@ -21,6 +21,22 @@ within = 1 ∷ 2 ∷ 3 ∷ 4 ∷ 5 ∷ 6 ∷ 7 ∷ []
 
 abbrev pub Inside : Place → Type 0
 Inside p = OneOf within (tagOf the-type p)
+
+-- no fault was met: between records or inside one
+abbrev pub Sound : Place → Type 0
+Sound p = OneOf (0 ∷ within) (tagOf the-type p)
+
+-- past the limit that is 24
+pub past-sound : (p : Place) → Sound p → (r : Reader) (at : ℕ) → pastIn p r at ≡ refusedAt at Long
+past-sound Kind h r at = refl
+past-sound Code h r at = refl
+past-sound Upper h r at = refl
+past-sound Lower h r at = refl
+past-sound FromDispenser h r at = refl
+past-sound Milliseconds h r at = refl
+past-sound FromValidator h r at = refl
+past-sound ToValidator h r at = refl
+past-sound (Broken why) h r at = absurd (miss (0 ∷ within) 8 tt h)
 
 byte-inside : (p : Place) → Inside p → (r : Reader) (at b : ℕ) → byteIn p r at b ≡ grouped r b
 byte-inside Kind h r at b = absurd (miss within 0 tt h)

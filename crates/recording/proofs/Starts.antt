@@ -15,6 +15,7 @@ use Rattle.numbers.specs.declared.Group.the-variants.{More as OneMore, Last, Wr
 use Rattle.dispenser_frame_rules.specs.Table.{known}
 use Rattle.recording.specs.Record.{inList}
 use Rattle.recording.specs.Reading.{Reading, bad, freshReader, awaiting, grown, nextNumber, more, whole, refusedAt, refused, kindByte, numbered, requestRead, byteRead, commandRead, groupRead, grouped, readByte, also, went, closing, readingFrom}
+use Rattle.recording.specs.Promises.{AtOnce, bad-number, unknown}
 use Rattle.recording.specs.Taking.{settled, foundFrom, foundAt}
 use Rattle.recording.specs.declared.Fault.{Fault}
 use Rattle.recording.specs.declared.Fault.the-variants.{BadNumber, Cut, Unknown}
@@ -32,21 +33,21 @@ use Rattle.recording.proofs.Glances.{found-nil, found-step}
 
 -- ---- what a byte of the record that starts at o leaves
 
-data Held (o : ℕ) : Step → Type 0 where
+pub data Held (o : ℕ) : Step → Type 0 where
   begun : (r : Reader) → Inside (r .place) → r .start ≡ o → Held o (more r)
   complete : (x : Record) → Held o (whole x)
-  faulty : (why : Fault) → Held o (refusedAt o why)
+  faulty : {why : Fault} → AtOnce why → Held o (refusedAt o why)
 
 held-either : {o : ℕ} (t : Bool) {x y : Step} → Held o x → Held o y → Held o (cond t x y)
 held-either true a b = a
 held-either false a b = b
 
-held-refused : {o : ℕ} (r : Reader) (why : Fault) → r .start ≡ o → Held o (refused r why)
-held-refused {o} r why e = subst (λ (p : ℕ). Held o (refusedAt p why)) (sym e) (faulty why)
+held-refused : {o : ℕ} (r : Reader) {why : Fault} → AtOnce why → r .start ≡ o → Held o (refused r why)
+held-refused {o} r {why} f e = subst (λ (p : ℕ). Held o (refusedAt p why)) (sym e) (faulty f)
 
 -- a record, unless its value is refused
 held-value : {o : ℕ} (c : Condition) (r : Reader) (x : Record) → r .start ≡ o → Held o (judged (c gives Unknown ∷ []) (refused r) (whole x))
-held-value c r x e = held-either (c .test) (held-refused r Unknown e) (complete x)
+held-value c r x e = held-either (c .test) (held-refused r unknown e) (complete x)
 
 held-number : {o : ℕ} (p : Place) → Inside p → (r : Reader) (n : ℕ) → r .start ≡ o → Held o (numbered p r n)
 unfolding requestRead byteRead commandRead
@@ -63,14 +64,14 @@ held-number (Broken why) i r n e = absurd (miss within 8 tt i)
 held-group : {o : ℕ} (g : Group) (r : Reader) → Inside (r .place) → r .start ≡ o → Held o (groupRead g r)
 held-group (OneMore a w) r i e = begun (grown r a w) i e
 held-group (Last n) r i e = held-number (r .place) i r n e
-held-group Wrong r i e = held-refused r BadNumber e
+held-group Wrong r i e = held-refused r bad-number e
 
-held-byte : {o : ℕ} (r : Reader) (at b : ℕ) → Inside (r .place) → r .start ≡ o → Held o (readByte r at b)
+pub held-byte : {o : ℕ} (r : Reader) (at b : ℕ) → Inside (r .place) → r .start ≡ o → Held o (readByte r at b)
 unfolding grouped
 held-byte {o} r at b i e = subst (Held o) (sym (begun-byte r at b i)) (held-group (nextGroup (r .acc) (r .weight) b) r i e)
 
 -- its kind
-held-kind : (at b : ℕ) → Held at (readByte freshReader at b)
+pub held-kind : (at b : ℕ) → Held at (readByte freshReader at b)
 unfolding readByte kindByte
 held-kind at zero = begun (awaiting at Code) (hit within 1 tt) refl
 held-kind at (suc zero) = begun (awaiting at FromDispenser) (hit within 4 tt) refl
@@ -78,7 +79,7 @@ held-kind at (suc (suc zero)) = begun (awaiting at Milliseconds) (hit within 5 t
 held-kind at (suc (suc (suc zero))) = begun (awaiting at FromValidator) (hit within 6 tt) refl
 held-kind at (suc (suc (suc (suc zero)))) = begun (awaiting at ToValidator) (hit within 7 tt) refl
 held-kind at (suc (suc (suc (suc (suc zero))))) = complete Clear
-held-kind at (suc (suc (suc (suc (suc (suc k)))))) = faulty Unknown
+held-kind at (suc (suc (suc (suc (suc (suc k)))))) = faulty unknown
 
 -- ---- g says what bytes from p on say, and n bytes of the record at a were read: what is found in s
 
@@ -107,7 +108,7 @@ leads-byte {a} {p} {n} {b} {s} {g} t (complete x) c later =
     let q : suc p ≡ p + 1 = omega arith in
     subst (λ (m : ℕ). Leads a p n (b ∷ s) g (Whole x m)) f
     (one x 1 (omega arith) (omega arith) (λ t. c t ∙ ap (λ (i : ℕ). also x (readingFrom freshReader i t)) q))
-leads-byte {s} t (faulty why) c later = none why (c s)
+leads-byte {s} t (faulty {why} f) c later = none why (c s)
 
 inside-leads : (s : List ℕ) {a : ℕ} (r : Reader) → Inside (r .place) → r .start ≡ a → (p n : ℕ) → Leads a p n s (readingFrom r p) (foundFrom r p n s)
 inside-leads [] {a} r i e p n =

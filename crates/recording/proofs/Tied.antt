@@ -13,6 +13,16 @@ use Rattle.recording.proofs.Reader.byte.Kinds as byte
 use Rattle.recording.proofs.Reader.byte.Reads as byte-reads
 use Rattle.recording.proofs.Reader.ended.Kinds as ended
 use Rattle.recording.proofs.Reader.ended.Reads as ended-reads
+use Rattle.recording.proofs.Reader.taken.Kinds as taken
+use Rattle.recording.proofs.Reader.taken.Reads as taken-reads
+use Rattle.recording.proofs.taking.rest_at.Kinds as rest-at
+use Rattle.recording.proofs.taking.rest_at.Reads as rest-at-reads
+use Rattle.recording.proofs.taking.glances_in.Kinds as glances-in
+use Rattle.recording.proofs.taking.glances_in.Reads as glances-in-reads
+use Rattle.recording.proofs.taking.reader_at.Kinds as reader-at
+use Rattle.recording.proofs.taking.reader_at.Reads as reader-at-reads
+use Rattle.recording.proofs.taking.record_in.Kinds as record-in
+use Rattle.recording.proofs.taking.record_in.Reads as record-in-reads
 use Rattle.recording.proofs.taking.record_at.Kinds as record-at
 use Rattle.recording.proofs.taking.record_at.Reads as record-at-reads
 use Rattle.recording.proofs.judge.Kinds as judge
@@ -35,6 +45,21 @@ byte-tied = tied byte.ps byte.r byte-reads.Post (λ κs x e. x) _ (λ κs a x e 
 
 pub ended-tied : Tied ended.ps ended.r ended-reads.Post (λ κs x e. x)
 ended-tied = tied ended.ps ended.r ended-reads.Post (λ κs x e. x) _ (λ κs a x e p. p)
+
+pub taken-tied : Tied taken.ps taken.r taken-reads.Post (λ κs x e. x)
+taken-tied = tied taken.ps taken.r taken-reads.Post (λ κs x e. x) _ (λ κs a x e p. p)
+
+pub rest-at-tied : Tied rest-at.ps rest-at.r rest-at-reads.Post (λ κs x e. x)
+rest-at-tied = tied rest-at.ps rest-at.r rest-at-reads.Post (λ κs x e. x) _ (λ κs a x e p. p)
+
+pub glances-in-tied : Tied glances-in.ps glances-in.r glances-in-reads.Post (λ κs x e. x)
+glances-in-tied = tied glances-in.ps glances-in.r glances-in-reads.Post (λ κs x e. x) _ (λ κs a x e p. p)
+
+pub reader-at-tied : Tied reader-at.ps reader-at.r reader-at-reads.Post (λ κs x e. x)
+reader-at-tied = tied reader-at.ps reader-at.r reader-at-reads.Post (λ κs x e. x) _ (λ κs a x e p. p)
+
+pub record-in-tied : Tied record-in.ps record-in.r record-in-reads.Post (λ κs x e. x)
+record-in-tied = tied record-in.ps record-in.r record-in-reads.Post (λ κs x e. x) _ (λ κs a x e p. p)
 
 pub record-at-tied : Tied record-at.ps record-at.r record-at-reads.Post (λ κs x e. x)
 record-at-tied = tied record-at.ps record-at.r record-at-reads.Post (λ κs x e. x) _ (λ κs a x e p. p)

@@ -1,15 +1,15 @@
 -- What is promised of recordings: each record read is what its bytes say, a record may be taken at once, and each of 21 to 24 is given exactly
--- when 01 says, and a fault stays. Proved in proofs/Back.antt, proofs/Exact.antt and proofs/Faults.antt.
+-- when 01 and 02 say, and a fault stays. Proved in proofs/Back.antt, proofs/Exact.antt and proofs/Faults.antt.
 use Prim.Native.Nat.{ℕ, _+_, _≤_, _<_}
 use mathlib.Core.Path.{_≡_}
 use mathlib.Core.List.{List, _∷_, _++_}
 use mathlib.Core.Logic.{_↔_}
-use lib.ListN.{length, drop}
+use lib.ListN.{length, take, drop}
 use Rattle.numbers.specs.Promises.{AllBytes}
 use Rattle.numbers.specs.Seven.{readGroups}
 use Rattle.numbers.specs.declared.Seven.the-variants.{Bad as NoNumber, Cut as NoEnd}
 use Rattle.recording.specs.Record.{mostBytes, isKind, howMany, takes, AllBelow, laidNumbers, recordBytes, InRange, laid, AllInRange}
-use Rattle.recording.specs.Reading.{records, bad, freshReader, readByte, ended, readerAfter, also, readingFrom, readRecording}
+use Rattle.recording.specs.Reading.{records, bad, freshReader, ended, takenByte, readerAfter, also, readingFrom, readRecording}
 use Rattle.recording.specs.Taking.{foundAt}
 use Rattle.recording.specs.declared.Fault.{Fault}
 use Rattle.recording.specs.declared.Fault.the-variants.{BadNumber, Cut, Unknown, Long}
@@ -48,19 +48,30 @@ pub record TakenAtOnce : Type 0 where
       → (foundAt s at ≡ Whole x n) ↔ (InRange x × (n ≡ length (recordBytes x)) × (drop at s ≡ recordBytes x ++ drop (at + n) s))
   pub faulty : (s : List ℕ) (at : ℕ) → AllBytes s → at < length s → (why : Fault) → (foundAt s at ≡ Bad why) ↔ Faulty why (drop at s)
 
--- a recording is good exactly where it is the bytes of records, and its records are those; 21, 22 and 23 exactly where the first record that
--- is none shows that fault, with its offset; 24 exactly where it is over 65,536 bytes, at offset 0, whatever else it holds
+-- the faults that a byte shows as soon as it comes: 21 and 23. 22 shows at the end
+pub data AtOnce : Fault → Type 0 where
+  bad-number : AtOnce BadNumber
+  unknown : AtOnce Unknown
+
+-- "an earlier 21 or 23": one that the bytes before the limit show
+abbrev pub Earlier : List ℕ → Type 0
+Earlier s = (why : Fault) × ((at : ℕ) × (AtOnce why × Breaks why at (take mostBytes s)))
+
+-- a recording is good exactly where it is the bytes of records, and its records are those; 21 and 23 exactly where, of the bytes before the limit, the first record that
+-- is none shows that fault, with its offset; 22 exactly where it ends inside a record, and not past the limit; 24 exactly where it is over 4,294,967,295 bytes and shows
+-- no earlier 21 or 23, at the offset of the first byte past the limit
 pub record ExactlyWhen : Type 0 where
   pub good : (s : List ℕ) (xs : List Record) → AllBytes s → (readRecording s ≡ records xs) ↔ ((length s ≤ mostBytes) × AllInRange xs × (s ≡ laid xs))
-  pub broken : (s : List ℕ) (why : Fault) (at : ℕ) → AllBytes s → length s ≤ mostBytes → (readRecording s ≡ bad why at) ↔ Breaks why at s
-  pub long : (s : List ℕ) (at : ℕ) → AllBytes s → (readRecording s ≡ bad Long at) ↔ ((mostBytes < length s) × (at ≡ 0))
+  pub broken : (s : List ℕ) (why : Fault) (at : ℕ) → AllBytes s → AtOnce why → (readRecording s ≡ bad why at) ↔ Breaks why at (take mostBytes s)
+  pub cut : (s : List ℕ) (at : ℕ) → AllBytes s → (readRecording s ≡ bad Cut at) ↔ ((length s ≤ mostBytes) × Breaks Cut at s)
+  pub long : (s : List ℕ) (at : ℕ) → AllBytes s → (readRecording s ≡ bad Long at) ↔ ((mostBytes < length s) × (at ≡ mostBytes) × (Earlier s → ⊥))
 
 -- a reader at a fault: whatever bytes follow, wherever they stand, change nothing; each says that fault, and so does the end
 pub record Stays (why : Fault) (at : ℕ) (r : Reader) : Type 0 where
   pub unchanged : (p : ℕ) (s : List ℕ) → readerAfter r p s ≡ r
-  pub byte : (p b : ℕ) → readByte r p b .outcome ≡ ByteBad why at
+  pub byte : (p b : ℕ) → takenByte r p b .outcome ≡ ByteBad why at
   pub end : ended r ≡ NotGood why at
 
 -- "After a fault further pieces change nothing" (02, Q-7): of any reader
 abbrev pub FaultStays : Type 0
-FaultStays = (r : Reader) (p b : ℕ) (why : Fault) (at : ℕ) → readByte r p b .outcome ≡ ByteBad why at → Stays why at (readByte r p b .reader)
+FaultStays = (r : Reader) (p b : ℕ) (why : Fault) (at : ℕ) → takenByte r p b .outcome ≡ ByteBad why at → Stays why at (takenByte r p b .reader)

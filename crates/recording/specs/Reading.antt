@@ -1,8 +1,7 @@
 -- Reading a recording, a byte at a time (01, "Recording and report").
 use Prim.Native.Nat.{ℕ, zero, suc, _%_}
 use mathlib.Core.List.{List, [], _∷_}
-use lib.ListN.{length}
-use Rattle.refusals.specs.Rules.{isnt, under, judged, firstOf, _gives_}
+use Rattle.refusals.specs.Rules.{isnt, under, atMost, judged, firstOf, _gives_}
 use Rattle.numbers.specs.Seven.{numberEnd, nextGroup}
 use Rattle.numbers.specs.declared.Group.{Group}
 use Rattle.numbers.specs.declared.Group.the-variants.{More as OneMore, Last, Wrong}
@@ -135,10 +134,29 @@ endedIn (Broken why) r = NotGood why (r .start)
 unfoldable pub ended : Reader → Verdict
 ended r = endedIn (r .place) r
 
+-- ---- a byte of a recording, which has a limit
+
+-- a byte past the limit, by what the reader waits for: 24 at that byte's offset. "an earlier 21 or 23 wins"
+abbrev pub pastIn : Place → Reader → ℕ → Step
+pastIn Kind r at = refusedAt at Long
+pastIn Code r at = refusedAt at Long
+pastIn Upper r at = refusedAt at Long
+pastIn Lower r at = refusedAt at Long
+pastIn FromDispenser r at = refusedAt at Long
+pastIn Milliseconds r at = refusedAt at Long
+pastIn FromValidator r at = refusedAt at Long
+pastIn ToValidator r at = refusedAt at Long
+pastIn (Broken why) r at = refused r why
+
+-- "Number 24 is now given when the byte past the new limit arrives, at that byte's offset, and no longer first" (02, Q-7), whatever else that byte would show. The first
+-- such byte has the offset 4,294,967,295
+unfoldable pub takenByte : Reader → ℕ → ℕ → Step
+takenByte r at b = firstOf (atMost mostBytes at gives pastIn (r .place) r at ∷ []) (readByte r at b)
+
 -- the reader after bytes of which the first stands at an offset
 unfoldable pub readerAfter : Reader → ℕ → List ℕ → Reader
 readerAfter r at [] = r
-readerAfter r at (b ∷ s) = readerAfter (readByte r at b .reader) (suc at) s
+readerAfter r at (b ∷ s) = readerAfter (takenByte r at b .reader) (suc at) s
 
 -- ---- a whole recording
 
@@ -162,14 +180,18 @@ abbrev pub closing : Verdict → Reading
 closing Good = records []
 closing (NotGood why at) = bad why at
 
--- the step over one byte, folded over bytes of which the first stands at an offset
+-- the step over one byte, folded over bytes of which the first stands at an offset; wherever that is
 unfoldable pub readingFrom : Reader → ℕ → List ℕ → Reading
 readingFrom r at [] = closing (ended r)
 readingFrom r at (b ∷ s) = went (readByte r at b .outcome) (readingFrom (readByte r at b .reader) (suc at) s)
 
--- "Length 24 is judged first, at offset 0."
+-- the same of a recording, which has a limit
+unfoldable pub takingFrom : Reader → ℕ → List ℕ → Reading
+takingFrom r at [] = closing (ended r)
+takingFrom r at (b ∷ s) = went (takenByte r at b .outcome) (takingFrom (takenByte r at b .reader) (suc at) s)
+
 unfoldable pub readRecording : List ℕ → Reading
-readRecording s = firstOf (under mostBytes (length s) gives bad Long 0 ∷ []) (readingFrom freshReader 0 s)
+readRecording s = takingFrom freshReader 0 s
 
 -- whether it is good
 abbrev pub verdictOf : Reading → Verdict

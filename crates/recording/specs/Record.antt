@@ -11,16 +11,16 @@ use Rattle.recording.specs.declared.Fault.the-variants.{BadNumber, Cut, 
 use Rattle.recording.specs.declared.Record.{Record}
 use Rattle.recording.specs.declared.Record.the-variants.{Request, DispenserByte, Tick, ValidatorByte, Command, Clear}
 
--- 01's number for each fault: "bad number; cut short; unknown kind or value; over 65,536 bytes"
+-- 01's number for each fault: "bad number; cut short; unknown kind or value"; over the limit below
 abbrev pub faultNumber : Fault → ℕ
 faultNumber BadNumber = badNumber
 faultNumber Cut = cutShort
 faultNumber Unknown = unknownValue
 faultNumber Long = tooLong
 
--- "over 65,536 bytes"
+-- "Accept recordings of up to 4,294,967,295 bytes" (02, Q-7)
 abbrev pub mostBytes : ℕ
-mostBytes = 65_536
+mostBytes = 4_294_967_295
 
 -- kind 4: "code (30h, 33h, 35h, 36h, 38h)"
 unfoldable pub inList : ℕ → Condition

@@ -1,7 +1,8 @@
 -- A record taken at once, where one is due: the step over one byte, folded until a record is whole or a fault shows.
-use Prim.Native.Nat.{ℕ, suc}
+use Prim.Native.Nat.{ℕ, suc, _-_}
+use mathlib.Core.Bool.{Bool, cond}
 use mathlib.Core.List.{List, [], _∷_}
-use lib.ListN.{drop}
+use lib.ListN.{length, drop}
 use Rattle.recording.specs.Reading.{freshReader, readByte}
 use Rattle.recording.specs.declared.Fault.the-variants.{Cut}
 use Rattle.recording.specs.declared.Reader.{Reader}
@@ -24,3 +25,7 @@ foundFrom r at n (b ∷ s) = settled (readByte r at b .outcome) (suc n) (foundFr
 -- where a record is due at an offset
 unfoldable pub foundAt : List ℕ → ℕ → NextRecord
 foundAt s at = foundFrom freshReader at 0 (drop at s)
+
+-- before which index of a piece a record may be told from four bytes at once: from the first on where one is due there, and nowhere while one is cut
+abbrev pub glancesIn : Bool → List ℕ → ℕ
+glancesIn cut s = cond cut 0 (length s - 3)

@@ -1,13 +1,17 @@
 // Recordings, read a byte at a time. Document 01, "Recording and report". The step over one byte is all that there is to reading, so that a
-// recording may come in pieces of any size. Where the bytes of a record stand together, `record_at` takes it at once, as those steps would.
+// recording may come in pieces of any size. Where the bytes of a record stand together, `record_at` takes it at once, as those steps would; `record_in` does so in a piece, which may begin inside a record.
 mod taking;
 
 pub use taking::NextRecord;
+pub use taking::glances_in;
+pub use taking::reader_at;
 pub use taking::record_at;
+pub use taking::record_in;
+pub use taking::rest_at;
 ghost use mathlib.Core.Path.{_≡_};
 ghost use Rattle.dispenser_frame_rules.specs.Table.{known};
 ghost use Rattle.recording.specs.Record.{faultNumber, inList};
-ghost use Rattle.recording.specs.Reading.{freshReader, awaiting, grown, nextNumber, more, whole, refusedAt, kindByte, numbered, requestRead, byteRead, commandRead, grouped, readByte, ended, verdict};
+ghost use Rattle.recording.specs.Reading.{freshReader, awaiting, grown, nextNumber, more, whole, refusedAt, kindByte, numbered, requestRead, byteRead, commandRead, grouped, readByte, pastIn, takenByte, ended, verdict};
 use dispenser_frame::answer_length;
 use numbers::Group;
 use numbers::NUMBER_END;
@@ -21,7 +25,7 @@ pub enum Fault {
     Cut,
     // Unknown kind, or a code or byte outside its kind's list.
     Unknown,
-    // Over 65,536 bytes.
+    // Over 4,294,967,295 bytes.
     Long,
 }
 
@@ -150,8 +154,8 @@ pub fn is_request(code: u64) -> bool
 }
 
 impl Reader {
-    // The most bytes that a recording may have.
-    pub const MOST: usize = 65_536;
+    // The most bytes that a recording may have (02, Q-7). Every offset and every count of records fits a u32: a record has at least one byte.
+    pub const MOST: u64 = 4_294_967_295;
 
     // Between records.
     pub fn fresh() -> Reader
@@ -311,7 +315,7 @@ impl Reader {
         }
     }
 
-    // A byte of the recording, which stands at an offset.
+    // A byte, which stands at an offset, wherever that is.
     pub fn byte(self, at: u64, b: u8) -> Step
         ensures { λ r. ⌜ r ≡ readByte self at b ⌝ }
     {
@@ -321,6 +325,27 @@ impl Reader {
             Place::Broken(why) => Reader::refused(why, self.start),
             _ => self.group(b),
         }
+    }
+
+    // A byte past the limit of a recording. After a fault it says that fault.
+    fn past(self, at: u64) -> Step
+        ensures { λ r. ⌜ r ≡ pastIn (self .place) self at ⌝ }
+    {
+        let p = self.place;
+        match p {
+            Place::Broken(why) => Reader::refused(why, self.start),
+            _ => Reader::refused(Fault::Long, at),
+        }
+    }
+
+    // A byte of a recording, which stands at an offset: the byte past the limit is 24, whatever else it would show.
+    pub fn taken(self, at: u64, b: u8) -> Step
+        ensures { λ r. ⌜ r ≡ takenByte self at b ⌝ }
+    {
+        if Reader::MOST <= at {
+            return self.past(at);
+        }
+        self.byte(at, b)
     }
 
     // The recording has ended: it is cut short where a record is begun, and bad where a fault was met.
@@ -336,17 +361,14 @@ impl Reader {
     }
 }
 
-// What a whole recording is: good, or bad as its first fault says. The length is judged first.
+// What a whole recording is: good, or bad as its first fault says.
 pub fn judge(recording: &[u8]) -> Verdict
     ensures { λ r. ⌜ r ≡ verdict (now (recording .entry)) ⌝ }
 {
-    if Reader::MOST < recording.len() {
-        return Verdict::Bad(Fault::Long, 0);
-    }
     let mut reader = Reader::fresh();
     let mut i: usize = 0;
     while i < recording.len() {
-        let step = reader.byte(i as u64, recording[i]);
+        let step = reader.taken(i as u64, recording[i]);
         let outcome = step.outcome;
         match outcome {
             Outcome::Bad(why, at) => {

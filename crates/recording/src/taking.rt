@@ -1,8 +1,10 @@
 // A record taken at once, where one is due: what the step over one byte makes of its bytes, one after the other.
 ghost use mathlib.Core.Path.{_≡_};
-ghost use Prim.Native.Nat.{ℕ, _≤_, _<_};
-ghost use Rattle.recording.specs.Reading.{numbered, requestRead};
-ghost use Rattle.recording.specs.Taking.{settled, foundAt};
+ghost use Prim.Native.Nat.{ℕ, _+_, _≤_, _<_};
+ghost use Rattle.recording.specs.Reading.{freshReader, numbered, requestRead};
+ghost use Rattle.recording.specs.Taking.{settled, foundFrom, foundAt, glancesIn};
+ghost use lib.ListN.{length, drop};
+ghost use mathlib.Core.Bool.{cond};
 ghost use Rattle.recording.specs.Scaffolding.{placeOf, lastDue, sure};
 ghost use Rattle.recording.specs.declared.Reader.{Reader};
 ghost use Rattle.recording.specs.declared.taking.NextRecord.{NextRecord};
@@ -71,14 +73,9 @@ fn short_request(code: u8, upper: u8, lower: u8) -> NextRecord
 
 // Where four bytes stand there: a number of one or two groups, or a request with three of one group.
 fn at_a_glance(recording: &[u8], at: usize) -> Glance
+    requires { ⌜ at + 4 ≤ length (now recording) ⌝ }
     ensures { λ r. ⌜ sure r (foundAt (now (recording .entry)) at) ⌝ }
 {
-    if recording.len() < 4 {
-        return Glance::Longer;
-    }
-    if recording.len() - 4 < at {
-        return Glance::Longer;
-    }
     let kind = recording[at];
     let first = recording[at + 1];
     let second = recording[at + 2];
@@ -111,11 +108,11 @@ fn at_a_glance(recording: &[u8], at: usize) -> Glance
     Glance::Sure(single(kind, n, 3))
 }
 
-// The same by the step over one byte.
-fn byte_by_byte(recording: &[u8], at: usize) -> NextRecord
-    ensures { λ r. ⌜ r ≡ foundAt (now (recording .entry)) at ⌝ }
+// What is found of a record that is begun, or due, by the step over one byte: a reader has read its first bytes, and the others stand from an offset on, where they are counted.
+pub fn rest_at(begun: Reader, recording: &[u8], at: usize) -> NextRecord
+    ensures { λ r. ⌜ r ≡ foundFrom begun at 0 (drop at (now (recording .entry))) ⌝ }
 {
-    let mut reader = Reader::fresh();
+    let mut reader = begun;
     let mut i: usize = at;
     while i < recording.len() {
         let step = reader.byte(i as u64, recording[i]);
@@ -139,12 +136,55 @@ fn byte_by_byte(recording: &[u8], at: usize) -> NextRecord
     NextRecord::Bad(Fault::Cut)
 }
 
+// Before which index of a piece a glance may be taken: none while a record is cut, and else where four bytes stand.
+pub fn glances_in(cut: bool, piece: &[u8]) -> usize
+    ensures { λ r. ⌜ r ≡ glancesIn cut (now (piece .entry)) ⌝ }
+{
+    if cut {
+        return 0;
+    }
+    if piece.len() < 4 {
+        return 0;
+    }
+    piece.len() - 3
+}
+
+// The reader that has the bytes of the record at hand: of one that was cut, or none.
+pub fn reader_at(cut: bool, begun: Reader) -> Reader
+    ensures { λ r. ⌜ r ≡ cond cut begun freshReader ⌝ }
+{
+    if cut {
+        return begun;
+    }
+    Reader::fresh()
+}
+
+// What is found at an index of a piece: the rest of a record that was cut, or the record that is due. The bound for glances is handed in, so that a loop over a piece need not ask at
+// each record whether one was cut.
+pub fn record_in(glances: usize, cut: bool, begun: Reader, piece: &[u8], at: usize) -> NextRecord
+    requires { ⌜ glances ≤ glancesIn cut (now piece) ⌝ }
+    ensures { λ r. ⌜ r ≡ foundFrom (cond cut begun freshReader) at 0 (drop at (now (piece .entry))) ⌝ }
+{
+    if at < glances {
+        match at_a_glance(piece, at) {
+            Glance::Sure(found) => {
+                return found;
+            }
+            Glance::Longer => {}
+        }
+    }
+    rest_at(reader_at(cut, begun), piece, at)
+}
+
 // What is found at an offset where a record is due. Where no byte is left, that is no record: 22.
 pub fn record_at(recording: &[u8], at: usize) -> NextRecord
     ensures { λ r. ⌜ r ≡ foundAt (now (recording .entry)) at ⌝ }
 {
-    match at_a_glance(recording, at) {
-        Glance::Sure(found) => found,
-        Glance::Longer => byte_by_byte(recording, at),
-    }
+    record_in(
+        glances_in(false, recording),
+        false,
+        Reader::fresh(),
+        recording,
+        at,
+    )
 }

@@ -1,12 +1,16 @@
-// Replays the example recordings that its arguments name, and holds the report of each to the one that it must give. For an argument NAME the recording is
-// NAME.rec and the report NAME.report, both in data/; NAME.txt says what the recording holds and what it shows.
+// Replays the example recordings that its arguments name, and holds the report of each to the one that it must give: in one piece, cut in two at every place, and byte by
+// byte. For an argument NAME the recording is NAME.rec and the report NAME.report, both in data/; NAME.txt says what the recording holds and what it shows.
+ghost use Prim.Native.Nat.{_≤_};
+ghost use lib.ListN.{length};
+use grading_rules::Findings;
+use grading_rules::Replaying;
 use libc::STDERR_FILENO;
 use libc::STDOUT_FILENO;
 use recording::Verdict;
 use refusals::Put;
 
-// One byte more than a recording may have.
-const RECORDING: usize = 65_537;
+// No example has more bytes.
+const RECORDING: usize = 65_536;
 
 fn main() {
     each(os::arg_count());
@@ -88,6 +92,56 @@ fn hold(name: &[u8], recording: &[u8], wanted: &[u8]) {
     let mut room = [0u8; report::LONGEST];
     match report::report(recording, &mut room) {
         Put::Bytes(n) => say(name, front(&room, n), wanted),
+        Put::Refused(_) => {
+            io::write_all(STDERR_FILENO, b"no room for the report\n");
+        }
+    }
+    hold_cut(name, recording, wanted);
+    hold_found(name, byte_by_byte(recording), wanted);
+}
+
+// The same of the recording cut in two at every place, before its first byte and behind its last too.
+fn hold_cut(name: &[u8], recording: &[u8], wanted: &[u8]) {
+    let mut at: usize = 0;
+    while at < recording.len() {
+        hold_found(name, in_two(recording, at), wanted);
+        at += 1;
+    }
+    hold_found(name, in_two(recording, at), wanted);
+}
+
+// What is found in a recording that is fed in two pieces.
+fn in_two(recording: &[u8], at: usize) -> Findings
+    requires { ⌜ at ≤ length (now recording) ⌝ }
+{
+    let first = grading::feed(Replaying::fresh(), &recording[0..at]);
+    let second = grading::feed(first, &recording[at..]);
+    grading::ended(second)
+}
+
+// What is found in a recording that is fed byte by byte, with an empty piece behind each.
+fn byte_by_byte(recording: &[u8]) -> Findings {
+    let mut replay = Replaying::fresh();
+    let mut i: usize = 0;
+    while i < recording.len() {
+        let one = grading::feed(replay, &recording[i..i + 1]);
+        let next = grading::feed(one, b"");
+        replay = next;
+        i += 1;
+    }
+    grading::ended(replay)
+}
+
+// Says so where the report of what was found is another one.
+fn hold_found(name: &[u8], found: Findings, wanted: &[u8]) {
+    let mut room = [0u8; report::LONGEST];
+    match report::write_report(found, &mut room) {
+        Put::Bytes(n) => {
+            if !is_same(front(&room, n), wanted) {
+                io::write_all(STDOUT_FILENO, name);
+                io::write_all(STDOUT_FILENO, b": NOT the same when it is cut\n");
+            }
+        }
         Put::Refused(_) => {
             io::write_all(STDERR_FILENO, b"no room for the report\n");
         }

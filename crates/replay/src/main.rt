@@ -1,16 +1,15 @@
 // Replays recordings: each file that an argument names, or standard input where there is no argument. The report of each goes to standard output, and
 // nothing else does. A file that cannot be opened or read, or an argument that is no path, gets one line on standard error, and no report.
+use grading_rules::Findings;
 use libc::STDERR_FILENO;
 use libc::STDIN_FILENO;
 use libc::STDOUT_FILENO;
 use refusals::Put;
 
-// One byte more than a recording may have, so that one that is too long shows.
-const ROOM: usize = 65_537;
-
 fn main() {
     if os::arg_count() < 2 {
-        replay_from(STDIN_FILENO, b"standard input");
+        let mut piece = io::large_buffer();
+        replay_from(STDIN_FILENO, b"standard input", &mut piece);
         return;
     }
     each(os::arg_count());
@@ -42,26 +41,26 @@ fn named(i: usize) {
         os::fail(&path[..n]);
         return;
     }
-    replay_from(fd, &path[..n]);
+    let mut piece = io::large_buffer();
+    replay_from(fd, &path[..n], &mut piece);
     libc::close(fd);
 }
 
-// The recording that can be read from a descriptor.
-fn replay_from(fd: i32, name: &[u8]) {
-    let mut store = [0u8; ROOM];
-    let got = files::read_all(fd, &mut store);
-    if got < 0 {
+// The recording that can be read from a descriptor, in pieces that are read into a lent buffer.
+fn replay_from(fd: i32, name: &[u8], piece: &mut [u8]) {
+    let replayed = feeding::replay_from(fd, piece);
+    if replayed.failed {
         os::fail(name);
         return;
     }
-    let n = io::count(got, &store);
-    show(name, &store[..n]);
+    let found = replayed.found;
+    show(name, found);
 }
 
-// The report of a recording, written out. A room of the longest report's length is always enough.
-fn show(name: &[u8], recording: &[u8]) {
+// The report of what was found, written out. A room of the longest report's length is always enough.
+fn show(name: &[u8], found: Findings) {
     let mut room = [0u8; report::LONGEST];
-    match report::report(recording, &mut room) {
+    match report::write_report(found, &mut room) {
         Put::Bytes(n) => print(&room, n),
         Put::Refused(_) => {
             io::write_all(STDERR_FILENO, name);

@@ -1,12 +1,12 @@
 -- The longest report: no number in it has more than ten digits, and no type more than two. Assumes nothing.
-use Prim.Native.Nat.{ℕ, suc, _+_, _*_, _≤_, _<_}
+use Prim.Native.Nat.{ℕ, zero, suc, _+_, _*_, _≤_, _<_}
 use mathlib.Core.Path.{_≡_, refl, sym, ap, _∙_, subst}
 use mathlib.Core.Bool.{Bool, true, false, cond}
 use mathlib.Core.List.{List, [], _∷_, _++_}
 use native.Mathlib.Omega.{arith}
 use lib.Dec.{ltb}
-use lib.ListN.{length, getD, set, length-append, length-set}
-use Rattle.refusals.specs.Rules.{under, same}
+use lib.ListN.{length, take, getD, set, length-append, length-set}
+use Rattle.refusals.specs.Rules.{same}
 use Rattle.numbers.specs.Promises.{AllBytes}
 use Rattle.refusals.proofs.Rules.{by-cases}
 use Rattle.exchange_rules.specs.Kept.{Within}
@@ -31,22 +31,25 @@ use Rattle.validator_rules.specs.declared.bills.Bills.{Bills}
 use Rattle.validator_rules.proofs.Agreeing.{kept-by-history}
 use Rattle.recording.specs.Record.{mostBytes, faultNumber, laid}
 use Rattle.recording.specs.Reading.{Reading, records, bad, readRecording}
+use Rattle.recording.specs.Promises.{AtOnce, bad-number, unknown}
 use Rattle.recording.specs.declared.Fault.{Fault}
 use Rattle.recording.specs.declared.Fault.the-variants.{BadNumber, Cut, Unknown, Long}
 use Rattle.recording.specs.declared.Record.{Record}
 use Rattle.recording.specs.declared.Record.the-variants.{Request, DispenserByte, Tick, ValidatorByte, Command, Clear}
 use Rattle.recording.proofs.Exact.{exactly-when}
 use Rattle.recording.proofs.Back.{length-record}
-use Rattle.recording.proofs.Folds.{reading-long}
 use Rattle.report.specs.Text.{bytesOf, longest}
-use Rattle.grading_rules.specs.Replay.{Desk, freshDesk, given, run, replayOf}
+use Rattle.grading_rules.specs.Replay.{freshDesk, given, run}
+use Rattle.grading_rules.specs.Feeding.{replayOf}
+use Rattle.grading_rules.specs.declared.desk.Desk.{Desk}
 use Rattle.report.specs.Report.{field, line, lines, paidPart, unpaidPart, sumsLine, lastName, errorLine, typeLine, typeLines, goodLines, badLine, reportText, reportOf}
 use Rattle.grading_rules.specs.Promises.{calls, takerCalls, refuses, refusals}
 use Rattle.report.specs.Promises.{Enough}
 use Rattle.grading_rules.specs.declared.findings.Findings.{Findings}
 use Rattle.report.proofs.Adding.{ten}
 use Rattle.report.proofs.Lines.{lines-none, lines-one, lines-more, lines-append, two, type-none, type-seen, types-nil, types-cons}
-use Rattle.grading_rules.proofs.Recorded.{good-replay, session-ran, as-recorded}
+use Rattle.grading_rules.proofs.Cuts.{as-read}
+use Rattle.grading_rules.proofs.Recorded.{good-replay, session-ran, as-recorded-whole}
 
 abbrev end32 : ℕ
 end32 = 4_294_967_296
@@ -200,33 +203,42 @@ good-enough : (s : List ℕ) (xs : List Record) → AllBytes s → readRecording
 unfolding reportText
 good-enough s xs h e =
     let w = exactly-when .good s xs h .0 e in
-    let p = as-recorded s xs h e in
+    let p = as-recorded-whole s xs h e in
     let r = p .1 in
-    let cut = never-cut (calls freshDesk xs) in
-    let n : length xs ≤ 65_536 = omega (arith, w .0, laid-many xs, ap length (w .2)) in
+    let cut = never-cut (calls xs) in
+    let n : length xs ≤ 4_294_967_295 = omega (arith, w .0, laid-many xs, ap length (w .2)) in
     let c = session-ran xs in
     let b : (k : ℕ) → k < 24 → getD (run freshDesk xs .validator .bills) k (bills 0) .0 < end32
-    = λ k l. omega (arith, sym (ap (λ (f : Findings). getD (f .bills) k (bills 0) .0) (good-replay s xs e)) ∙ r .bills-told k l, kept-by-history .few (takerCalls freshDesk xs (p .0)) k l) in
+    = λ k l. omega (arith, sym (ap (λ (f : Findings). getD (f .bills) k (bills 0) .0) (good-replay s xs e)) ∙ r .bills-told k l, kept-by-history .few (takerCalls xs (p .0)) k l) in
     rw (good-replay s xs e)
     (good-most (run freshDesk xs .dispenser .account .cassettes) (run freshDesk xs .errors) (run freshDesk xs .validator .bills) (run freshDesk xs .declined) (run freshDesk xs .records)
-    (subst (λ (y : Session). Few (y .account .cassettes .upper)) (sym c) (bounded-few (ran host freshSession (calls freshDesk xs) .account .cassettes .upper) (cut Upper)))
-    (subst (λ (y : Session). Few (y .account .cassettes .lower)) (sym c) (bounded-few (ran host freshSession (calls freshDesk xs) .account .cassettes .lower) (cut Lower)))
+    (subst (λ (y : Session). Few (y .account .cassettes .upper)) (sym c) (bounded-few (ran host freshSession (calls xs) .account .cassettes .upper) (cut Upper)))
+    (subst (λ (y : Session). Few (y .account .cassettes .lower)) (sym c) (bounded-few (ran host freshSession (calls xs) .account .cassettes .lower) (cut Lower)))
     (bills-ran freshDesk xs ∙ fresh-bills)
     b
     (omega (arith, n, refusals-most freshDesk xs, sym (ap (λ (f : Findings). f .declined) (good-replay s xs e)) ∙ r .declined))
     (omega (arith, n, sym (ap (λ (f : Findings). f .records) (good-replay s xs e)) ∙ r .all)))
 
+take-most : (n : ℕ) (s : List ℕ) → length (take n s) ≤ n
+take-most zero s = omega arith
+take-most (suc n) [] = omega arith
+take-most (suc n) (b ∷ s) = omega (arith, take-most n s)
+
+-- a fault is in a record that starts before the limit, or at it
+early-place : (s : List ℕ) (why : Fault) (at : ℕ) → AllBytes s → AtOnce why → readRecording s ≡ bad why at → at < end32
+early-place s why at h a e =
+    let b = exactly-when .broken s why at h a .0 e in
+    omega (arith, b .place, simp length-append at (ap length (b .are)), take-most mostBytes s)
+
 bad-place : (s : List ℕ) (why : Fault) (at : ℕ) → AllBytes s → readRecording s ≡ bad why at → at < end32
-bad-place s why at h e =
-    by-cases (under mostBytes (length s))
-    (λ l. let r : bad Long 0 ≡ bad why at = sym (reading-long s l) ∙ e in let z : 0 ≡ at = cc in omega arith)
-    (λ n.
-    let b = exactly-when .broken s why at h (omega arith) .0 e in
-    omega (arith, b .place, simp length-append at (ap length (b .are))))
+bad-place s BadNumber at h e = early-place s BadNumber at h bad-number e
+bad-place s Unknown at h e = early-place s Unknown at h unknown e
+bad-place s Cut at h e = let r = exactly-when .cut s at h .0 e in omega (arith, r .0, r .1 .place, simp length-append at (ap length (r .1 .are)))
+bad-place s Long at h e = let r = exactly-when .long s at h .0 e in omega (arith, r .1)
 
 bad-enough : (s : List ℕ) (why : Fault) (at : ℕ) → AllBytes s → readRecording s ≡ bad why at → length (reportText (replayOf s)) ≤ longest
-unfolding reportText replayOf
-bad-enough s why at h e = rw e (bad-most why at (bad-place s why at h e))
+unfolding reportText
+bad-enough s why at h e = rw (as-read s, e) (bad-most why at (bad-place s why at h e))
 
 pub enough : Enough
 unfolding reportOf

@@ -15,7 +15,7 @@ use Rattle.recording.specs.Record.{faultNumber}
 use Rattle.recording.specs.declared.Fault.{Fault}
 use Rattle.report.specs.Text.{bytesOf}
 use Rattle.validator_rules.specs.declared.bills.Bills.{Bills}
-use Rattle.grading_rules.specs.Replay.{replayOf}
+use Rattle.grading_rules.specs.Feeding.{replayOf}
 use Rattle.grading_rules.specs.declared.findings.Ending.{Ending}
 use Rattle.grading_rules.specs.declared.findings.Ending.the-variants.{Good, Bad}
 use Rattle.grading_rules.specs.declared.findings.Findings.{Findings}

@@ -13,12 +13,10 @@ use libc::STDOUT_FILENO;
 use refusals::Put;
 use sheet::print_form;
 
-// One byte more than a recording may have, so that one that is too long shows.
-const ROOM: usize = 65_537;
-
 fn main() {
     if os::arg_count() < 2 {
-        list_from(STDIN_FILENO, b"standard input");
+        let mut piece = io::large_buffer();
+        list_from(STDIN_FILENO, b"standard input", &mut piece);
         return;
     }
     each(os::arg_count());
@@ -50,20 +48,20 @@ fn named(i: usize) {
         os::fail(&path[..n]);
         return;
     }
-    list_from(fd, &path[..n]);
+    let mut piece = io::large_buffer();
+    list_from(fd, &path[..n], &mut piece);
     libc::close(fd);
 }
 
-// The recording that can be read from a descriptor.
-fn list_from(fd: i32, name: &[u8]) {
-    let mut store = [0u8; ROOM];
-    let got = files::read_all(fd, &mut store);
-    if got < 0 {
+// The recording that can be read from a descriptor, in pieces that are read into a lent buffer.
+fn list_from(fd: i32, name: &[u8], piece: &mut [u8]) {
+    let replayed = feeding::replay_from(fd, piece);
+    if replayed.failed {
         os::fail(name);
         return;
     }
-    let n = io::count(got, &store);
-    show(grading::replay(&store[..n]));
+    let found = replayed.found;
+    show(found);
 }
 
 // What a replay left.

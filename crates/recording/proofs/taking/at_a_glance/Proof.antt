@@ -6,15 +6,6 @@ use borrow.Author.Needs.{needs}
 use Rattle.recording.proofs.taking.at_a_glance.Statement.{statement}
 use Rattle.recording.proofs.taking.at_a_glance.Tie as tie
 
-returns : tie.Need-returns
-returns c = search needs
-
-sub-if2 : tie.Need-sub-if2
-sub-if2 c = search needs
-
-returns-2 : tie.Need-returns-2
-returns-2 c = search needs
-
 shared-slice-read-kind : tie.Need-shared-slice-read-kind
 shared-slice-read-kind c = search needs
 
@@ -30,8 +21,8 @@ add-second c = search needs
 shared-slice-read-second : tie.Need-shared-slice-read-second
 shared-slice-read-second c = search needs
 
-returns-3 : tie.Need-returns-3
-returns-3 c = search needs
+returns : tie.Need-returns
+returns c = search needs
 
 add-third : tie.Need-add-third
 add-third c = search needs
@@ -39,21 +30,21 @@ add-third c = search needs
 shared-slice-read-third : tie.Need-shared-slice-read-third
 shared-slice-read-third c = search needs
 
+returns-2 : tie.Need-returns-2
+returns-2 c = search needs
+
+returns-3 : tie.Need-returns-3
+returns-3 c = search needs
+
 returns-4 : tie.Need-returns-4
 returns-4 c = search needs
-
-returns-5 : tie.Need-returns-5
-returns-5 c = search needs
-
-returns-6 : tie.Need-returns-6
-returns-6 c = search needs
 
 short-request-requires : tie.Need-short-request-requires
 short-request-requires c κs = search needs
 
-returns-7 : tie.Need-returns-7
-returns-7 c =
-    let here = c .before .before .before .before .before .before .before .before .before .before .before .before .before .args in
+returns-5 : tie.Need-returns-5
+returns-5 c =
+    let here = c .before .before .before .before .before .before .before .before .before .before .before .args in
     let room : here .at + 4 ≤ length (here .recording .now) = search needs in
     found-four (here .recording .now) (here .at) room (search needs) (search needs) (search needs) (search needs) (c .short-request .ensures)
 
@@ -63,17 +54,17 @@ cast-single c = search needs
 single-requires : tie.Need-single-requires
 single-requires c κs = search needs
 
-returns-8 : tie.Need-returns-8
-returns-8 c =
-    let here = c .before .before .before .before .before .before .before .before .before .before .args in
+returns-6 : tie.Need-returns-6
+returns-6 c =
+    let here = c .before .before .before .before .before .before .before .before .args in
     let room : here .at + 4 ≤ length (here .recording .now) = search needs in
     found-two (here .recording .now) (here .at) room (search needs) (search needs) (c .single .ensures)
 
-returns-9 : tie.Need-returns-9
-returns-9 c = search needs
+returns-7 : tie.Need-returns-7
+returns-7 c = search needs
 
-returns-10 : tie.Need-returns-10
-returns-10 c = search needs
+returns-8 : tie.Need-returns-8
+returns-8 c = search needs
 
 cast-n : tie.Need-cast-n
 cast-n c = search needs
@@ -90,9 +81,9 @@ add-n c = search needs
 single-requires-2 : tie.Need-single-requires-2
 single-requires-2 c κs = search needs
 
-returns-11 : tie.Need-returns-11
-returns-11 c =
-    let here = c .before .before .before .before .before .before .before .before .before .before .before .before .args in
+returns-9 : tie.Need-returns-9
+returns-9 c =
+    let here = c .before .before .before .before .before .before .before .before .before .before .args in
     let room : here .at + 4 ≤ length (here .recording .now) = search needs in
     found-three (here .recording .now) (here .at) room (search needs) (search needs) (search needs) (search needs) (c .single2 .ensures)
 
@@ -100,30 +91,27 @@ pub at-a-glance-spec : {M : Type 1} → statement M
 at-a-glance-spec =
     tie.close
     (tie.spec
-    returns
-    sub-if2
-    returns-2
     shared-slice-read-kind
     add-first
     shared-slice-read-first
     add-second
     shared-slice-read-second
-    returns-3
+    returns
     add-third
     shared-slice-read-third
+    returns-2
+    returns-3
     returns-4
-    returns-5
-    returns-6
     short-request-requires
-    returns-7
+    returns-5
     cast-single
     single-requires
+    returns-6
+    returns-7
     returns-8
-    returns-9
-    returns-10
     cast-n
     cast-n-2
     mul-n
     add-n
     single-requires-2
-    returns-11)
+    returns-9)

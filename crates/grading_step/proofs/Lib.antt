@@ -1,0 +1,3 @@
+-- What the proofs of `grading_step` share.
+pub mod Steps
+pub mod Again

@@ -1,0 +1,2 @@
+-- What the functions of `grading_step` cite.
+pub mod Scaffolding
