@@ -8,6 +8,7 @@ use crate::error_class::{BESIDE, LISTED};
 use crate::random::Random;
 use crate::recording::Record;
 use crate::replay::{Bench, Played, Rooms};
+use crate::tables;
 use crate::validator;
 use std::collections::VecDeque;
 
@@ -526,7 +527,11 @@ impl Simulation {
 
     fn validator_hears(&mut self, command: validator::Command) {
         self.validator.clear();
-        let body = if command == validator::Command::Poll { self.polled() } else { self.obeyed() };
+        let body = match command {
+            validator::Command::Poll => self.polled(),
+            validator::Command::Table if !self.random.once_in(4) => tables::body(&mut self.random),
+            _ => self.obeyed(),
+        };
         let Some(mut frame) = ccnet_frame::write(0x03, &body) else { return };
         let mut at = self.now + self.random.pick(&[0, 0, 0, 1, 5, 8]);
         if self.random.once_in(8) {

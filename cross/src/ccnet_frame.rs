@@ -99,6 +99,8 @@ pub enum Class {
     State,
     /// 80h, 81h or 82h with a bill type.
     Bill(Place, u8),
+    /// In answer to GET BILL TABLE alone: 1 to 120 bytes, whatever they would say to a POLL.
+    Table,
     /// "Any other body": acknowledged, never credited.
     Unknown,
 }

@@ -6,6 +6,7 @@ use crate::number;
 use crate::quick;
 use crate::random::Random;
 use crate::recording;
+use crate::tables;
 use crate::validator;
 
 #[derive(Clone, Copy, Debug, PartialEq, Eq)]
@@ -18,6 +19,8 @@ pub enum Family {
     Loose,
     /// A bench at work, with bytes changed, lost, added, moved or doubled.
     Damaged,
+    /// Bills, and bill tables that value them.
+    Tables,
     /// Records of every kind with numbers around every limit.
     Records,
     /// Any bytes.
@@ -28,19 +31,21 @@ pub enum Family {
     Long,
 }
 
-/// Where the turns of `Many` begin, and those of `Long`.
+/// Where the turns of `Many` begin, those of `Tables`, and those of `Long`.
 const MANY: u64 = 37;
+const TABLES: u64 = 72;
 const LONG: u64 = 95;
 
 /// A program may hold so many bytes of a recording at a time. It can go wrong where one piece ends and the next begins.
 pub const PIECE: usize = 65_536;
 
 impl Family {
-    pub const ALL: [Family; 8] = [
+    pub const ALL: [Family; 9] = [
         Family::Plausible,
         Family::Many,
         Family::Loose,
         Family::Damaged,
+        Family::Tables,
         Family::Records,
         Family::Bytes,
         Family::Short,
@@ -53,6 +58,7 @@ impl Family {
             Family::Many => "many",
             Family::Loose => "loose",
             Family::Damaged => "damaged",
+            Family::Tables => "tables",
             Family::Records => "records",
             Family::Bytes => "bytes",
             Family::Short => "short",
@@ -66,9 +72,10 @@ impl Family {
             0..=36 => Family::Plausible,
             MANY..=44 => Family::Many,
             45..=56 => Family::Loose,
-            57..=76 => Family::Damaged,
-            77..=86 => Family::Records,
-            87..=88 => Family::Bytes,
+            57..=71 => Family::Damaged,
+            TABLES..=80 => Family::Tables,
+            81..=87 => Family::Records,
+            88 => Family::Bytes,
             89..=94 => Family::Short,
             LONG.. => Family::Long,
         }
@@ -85,6 +92,7 @@ pub fn recording(seed: u64, index: u64) -> (Family, Vec<u8>) {
         Family::Many => many(random, index / 100 * 8 + index * 37 % 100 - MANY),
         Family::Loose => loose(random),
         Family::Damaged => damaged(random),
+        Family::Tables => tables::recording(random.word(), index / 100 * 9 + index * 37 % 100 - TABLES),
         Family::Records => records(random),
         Family::Bytes => any(random, 200),
         Family::Short => short(random),
@@ -234,7 +242,7 @@ fn wrong(random: &mut Random, bytes: &mut Vec<u8>) {
             // a code outside its list: judged after the record's numbers, one of which may be wrong or not there
             let code = random.pick(&[0x00, 0x30, 0x34, 0x43, 0x47, 0x57, 0x78, request + 256]);
             if random.once_in(4) {
-                return recording::write(recording::ASK, &[random.pick(&[0x34, 0x31, 0x00, 0x45])], bytes);
+                return recording::write(recording::ASK, &[random.pick(&[0x34, 0x31, 0x00, 0x45, 0x40, 0x42])], bytes);
             }
             recording::write(recording::REQUEST, &[code, value(random)], bytes);
             match random.below(4) {

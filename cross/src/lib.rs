@@ -19,7 +19,9 @@ pub mod error_class;
 pub mod kept;
 pub mod requests;
 
-// "CCNET frames", "The validator session"
+// "CCNET frames", "The validator session"; Q-1 of document 02
+pub mod bill_table;
+pub mod bill_table_sheet;
 pub mod ccnet_frame;
 pub mod ccnet_wide;
 pub mod validator;
@@ -49,6 +51,7 @@ pub mod bench;
 pub mod generate;
 pub mod quick;
 pub mod random;
+pub mod tables;
 pub mod text;
 
 // The programs, the comparison and the timing.
@@ -64,3 +67,4 @@ pub mod watch;
 pub mod wide_sheet;
 pub mod wrong_requests;
 pub mod wrong_stops;
+pub mod wrong_tables;

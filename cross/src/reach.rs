@@ -109,6 +109,20 @@ places! {
     BillRepeated = 100, "validator: bill repeated";
     Type24 = 100, "validator: unknown body, bill type 24": "80h" "81h" "82h";
     UnknownBody = 100, "validator: unknown body";
+    TableHeld = 100, "bill table: held at the end, of so many bytes": "1" "2 to 4" "5" "6 to 118" "119" "120";
+    TableOver = 100, "bill table: over 120 bytes": "121" "122 to 250";
+    TableSecond = 100, "bill table: a second one";
+    TableWord = 100, "bill table: the word of a type seen":
+        "no such bill" "zeros 10" "places 10" "zeros or places above 10" "letter 40h" "letter 5Bh" "a small letter" "another byte as letter"
+        "first byte 0" "zeros 0" "zeros 1 to 8" "zeros 9" "places 0" "places 1 to 8" "places 9";
+    TableHolds = 100, "bill table: which one holds, told from":
+        "a short one keeps the rest of the old one" "00h is one" "FFh is one" "30h is one" "over 120 bytes are one" "over 120 bytes clear it"
+        "an answer to a POLL is one" "an answer to another command is one" "a listed body is none" "81h in it is a bill" "damage clears it"
+        "silence clears it" "RESET clears it" "the first one holds" "only later bills are valued";
+    TableSays = 100, "bill table: value, told from":
+        "places are zeros too" "zeros are places and places zeros" "ten zeros are usable" "ten places are usable" "nine zeros are not"
+        "nine places are not" "small letters are usable" "what is before A is usable" "what is behind Z is usable"
+        "a first byte 0 is no bill" "a first byte above 9 is unusable" "the value of one bill" "the word of the next type";
     Declined2 = 100, "declined: 2";
     Declined3Dispenser = 100, "declined: 3, dispenser";
     Declined3Validator = 100, "declined: 3, validator";

@@ -260,6 +260,7 @@ mod tests {
         assert_eq!(first(&[2, 0xE8, 0x07]), Ok(Record::Tick(1_000)));
         assert_eq!(first(&[3, 0x02]), Ok(Record::ValidatorByte(2)));
         assert_eq!(first(&[4, 0x33]), Ok(Record::Ask(validator::Command::Poll)));
+        assert_eq!(first(&[4, 0x41]), Ok(Record::Ask(validator::Command::Table)));
         assert_eq!(first(&[5]), Ok(Record::Clear));
     }
 

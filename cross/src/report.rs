@@ -1,6 +1,7 @@
 //! The report of a recording: "Every line ends with 0Ah."
 
 use crate::account::Sums;
+use crate::bill_table::total;
 use crate::error_class::ErrorClass;
 use crate::recording::Bad;
 use crate::replay::{replay, Bench};
@@ -33,6 +34,10 @@ pub(crate) fn lines(bench: &Bench) -> String {
     // "A line "type 3 bills 2" per type seen, rising, stands between "declined" and "records"."
     for (kind, bills) in bench.validator.bills().iter().enumerate().filter(|(_, &bills)| bills > 0) {
         text += &format!("type {kind} bills {bills}\n");
+        // "After a valued type's "type" line the report gains "value 2500 NLC 2""
+        if let Ok(Some(money)) = total(bench.validator.table().word(kind), *bills) {
+            text += &format!("value {money}\n");
+        }
     }
     text + &format!("records {}\n", bench.records)
 }
@@ -162,6 +167,48 @@ mod tests {
         }
         let text = report(&recording);
         assert!(text.contains("declined 0\ntype 0 bills 1\ntype 3 bills 1\ntype 23 bills 1\nrecords 27\n"), "{text}");
+    }
+
+    /// Adds a validator command on a quiet line, and a frame that answers it.
+    fn exchanged(code: u32, body: &[u8], recording: &mut Vec<u8>) {
+        recording.extend([2, 20]);
+        crate::recording::write(crate::recording::ASK, &[code], recording);
+        for byte in crate::ccnet_frame::write(3, body).unwrap() {
+            crate::recording::write(crate::recording::VALIDATOR_BYTE, &[u32::from(byte)], recording);
+        }
+    }
+
+    /// The lines about bills.
+    fn bills(recording: &[u8]) -> String {
+        let text = report(recording);
+        text.lines().filter(|line| line.starts_with("type") || line.starts_with("value")).collect::<Vec<_>>().join("; ")
+    }
+
+    #[test]
+    fn a_valued_type_has_its_total() {
+        let mut recording = Vec::new();
+        for _ in 0..100 {
+            exchanged(0x33, &[0x81, 0], &mut recording);
+            exchanged(0x33, &[0x81, 2], &mut recording);
+        }
+        exchanged(0x33, &[0x81, 3], &mut recording);
+        assert_eq!(bills(&recording), "type 0 bills 100; type 2 bills 100; type 3 bills 1");
+        // the last table values what was taken in before it too
+        let table = *b"\x19NLC\x82\x01ITL\x03\x02USA\x01\x05USA\x0A";
+        exchanged(0x41, &table, &mut recording);
+        let valued = "type 0 bills 100; value 2500 NLC 2; type 2 bills 100; value 2000 USA 0; type 3 bills 1";
+        assert_eq!(bills(&recording), valued);
+        // over 120 bytes, to another command, or one of the three one-byte bodies
+        exchanged(0x41, &[b'A'; 121], &mut recording);
+        exchanged(0x38, &[b'A'; 120], &mut recording);
+        exchanged(0x41, &[0x30], &mut recording);
+        assert_eq!(bills(&recording), valued);
+        exchanged(0x41, &table[..5], &mut recording);
+        assert_eq!(bills(&recording), "type 0 bills 100; value 2500 NLC 2; type 2 bills 100; type 3 bills 1");
+        exchanged(0x33, &[0x81, 0], &mut recording);
+        assert_eq!(bills(&recording), "type 0 bills 101; value 2525 NLC 2; type 2 bills 100; type 3 bills 1");
+        exchanged(0x41, b"\x00USA\x00", &mut recording);
+        assert_eq!(bills(&recording), "type 0 bills 101; value 0 USA 0; type 2 bills 100; type 3 bills 1");
     }
 
     /// What the dispenser says to a command that is done, with this error.

@@ -5,7 +5,7 @@
 //! pay upper 10                    kind 0; also pay lower 15, pay both 15 15, purge, status, test upper, test lower
 //! request 45 10 5                 kind 0, any code (in hex) and counts
 //! dispenser 06 15                 kind 1 for each byte (in hex)
-//! poll                            kind 4; also reset, stack, return, hold
+//! poll                            kind 4; also reset, stack, return, hold, table (GET BILL TABLE)
 //! validator 02 03 06 00 C2 82     kind 3 for each byte (in hex)
 //! clear                           kind 5
 //! raw 02 E8                       the recording's own bytes, for what no record has
@@ -59,6 +59,7 @@ fn event(words: &[&str], bytes: &mut Vec<u8>) -> Result<(), String> {
         ["stack"] => write(recording::ASK, &[0x35], bytes),
         ["return"] => write(recording::ASK, &[0x36], bytes),
         ["hold"] => write(recording::ASK, &[0x38], bytes),
+        ["table"] => write(recording::ASK, &[0x41], bytes),
         ["clear"] => write(recording::CLEAR, &[], bytes),
         ["dispenser", ref line @ ..] => each(recording::DISPENSER_BYTE, line, bytes)?,
         ["validator", ref line @ ..] => each(recording::VALIDATOR_BYTE, line, bytes)?,

@@ -1,5 +1,6 @@
 //! "The validator session": one command, at most one answer, and the bills that were stacked.
 
+use crate::bill_table::Table;
 use crate::ccnet_frame::{self, Class, Place, LONGEST, SHORTEST, SYNC, TYPES};
 use crate::dispenser::{is_tick, large_enough, Declined};
 
@@ -11,10 +12,13 @@ pub enum Command {
     Stack,
     Return,
     Hold,
+    /// GET BILL TABLE.
+    Table,
 }
 
 impl Command {
-    pub const ALL: [Command; 5] = [Command::Reset, Command::Poll, Command::Stack, Command::Return, Command::Hold];
+    pub const ALL: [Command; 6] =
+        [Command::Reset, Command::Poll, Command::Stack, Command::Return, Command::Hold, Command::Table];
 
     pub fn byte(self) -> u8 {
         match self {
@@ -23,6 +27,7 @@ impl Command {
             Command::Stack => 0x35,
             Command::Return => 0x36,
             Command::Hold => 0x38,
+            Command::Table => 0x41,
         }
     }
 
@@ -34,6 +39,7 @@ impl Command {
             0x35 => Some(Command::Stack),
             0x36 => Some(Command::Return),
             0x38 => Some(Command::Hold),
+            0x41 => Some(Command::Table),
             _ => None,
         }
     }
@@ -103,6 +109,7 @@ pub struct Session {
     /// "the last listed poll answer received to a POLL", where it was one about a bill.
     last: Class,
     bills: [u32; TYPES],
+    table: Table,
     /// "The gathering store is 255 bytes, all zero when fresh and again after each closing."
     store: [u8; LONGEST],
 }
@@ -125,6 +132,7 @@ impl Session {
             accepted: 0,
             last: Class::Unknown,
             bills: [0; TYPES],
+            table: Table::fresh(),
             store: [0; LONGEST],
         }
     }
@@ -132,6 +140,11 @@ impl Session {
     /// How many bills of each type were stacked.
     pub fn bills(&self) -> &[u32; TYPES] {
         &self.bills
+    }
+
+    /// "the last table read holds"
+    pub fn table(&self) -> &Table {
+        &self.table
     }
 
     pub fn phase(&self) -> Phase {
@@ -200,14 +213,30 @@ impl Session {
             return self.damaged(Damage::Check, room);
         };
         let class = ccnet_frame::classify(body);
+        let class = match class {
+            Class::Ack | Class::Nak | Class::Illegal => class,
+            _ if self.command == Command::Table => self.described(Table::read(body)),
+            _ => class,
+        };
         match class {
             Class::Ack => self.close(0, Closing::Acknowledged),
             Class::Nak => self.close(0, Closing::RefusedByNak),
             Class::Illegal => self.close(0, Closing::Illegal),
-            Class::State | Class::Bill(..) | Class::Unknown => {
+            Class::State | Class::Bill(..) | Class::Table | Class::Unknown => {
                 let bill = if self.command == Command::Poll { self.polled(class) } else { None };
                 Step { bill, ..self.close(frame(ACK, room), Closing::Answered(class)) }
             }
+        }
+    }
+
+    /// The answer to GET BILL TABLE. "A body over 120 bytes is unknown".
+    fn described(&mut self, table: Option<Table>) -> Class {
+        match table {
+            Some(table) => {
+                self.table = table;
+                Class::Table
+            }
+            None => Class::Unknown,
         }
     }
 
@@ -461,6 +490,49 @@ mod tests {
         assert_eq!(step, closed(Closing::Answered(Class::Bill(Place::Stacked, 3))));
         assert_eq!(host.session.bills()[3], 0);
         assert_eq!(host.exchange(Command::Poll, &[0x81, 3]).bill, Some(Bill::Credited));
+    }
+
+    #[test]
+    fn the_answer_to_get_bill_table_is_kept() {
+        let mut host = Host::fresh();
+        let answered = closed(Closing::Answered(Class::Table));
+        let body: Vec<u8> = (1..=120).collect();
+        host.tick(20).unwrap();
+        let step = host.request(Command::Table).unwrap();
+        assert_eq!(host.sent(step), write(3, &[0x41]).unwrap());
+        assert_eq!(host.hear(&write(3, &body).unwrap()), answered);
+        assert_eq!(host.session.table().bytes()[..], body);
+        // 121 bytes are unknown; ACK, NAK and illegal close as ever; nothing else is a table
+        assert_eq!(host.exchange(Command::Table, &[7; 121]), closed(Closing::Answered(Class::Unknown)));
+        assert_eq!(host.exchange(Command::Table, &[0x00]), closed(Closing::Acknowledged));
+        assert_eq!(host.exchange(Command::Table, &[0xFF]), closed(Closing::RefusedByNak));
+        assert_eq!(host.exchange(Command::Table, &[0x30]), closed(Closing::Illegal));
+        assert_eq!(host.exchange(Command::Poll, &[7; 120]), closed(Closing::Answered(Class::Unknown)));
+        assert_eq!(host.exchange(Command::Reset, &[7; 5]), closed(Closing::Answered(Class::Unknown)));
+        host.ask(Command::Table);
+        host.hear(&[0x02, 0x04]);
+        host.ask(Command::Table);
+        host.tick(10).unwrap();
+        assert_eq!(host.session.table().bytes()[..], body);
+        // unsent bytes count as zero
+        assert_eq!(host.exchange(Command::Table, &[9, 9]), answered);
+        assert_eq!(host.session.table().bytes()[..3], [9, 9, 0]);
+        assert!(host.session.table().bytes()[2..].iter().all(|&byte| byte == 0));
+        assert_eq!(host.exchange(Command::Table, &[0x00, 0x00]), answered);
+        assert_eq!(host.session.table(), &Table::fresh());
+    }
+
+    #[test]
+    fn a_table_that_looks_like_a_poll_answer_is_a_table() {
+        let mut host = Host::fresh();
+        host.exchange(Command::Poll, &[0x81, 3]);
+        for body in [&[0x14][..], &[0x81, 3], &[0x81, 4], &[0x1B, 0x00]] {
+            assert_eq!(host.exchange(Command::Table, body), closed(Closing::Answered(Class::Table)));
+            assert_eq!(&host.session.table().bytes()[..body.len()], body);
+        }
+        // it is neither credited nor remembered
+        assert_eq!((host.session.bills()[3], host.session.bills()[4]), (1, 0));
+        assert_eq!(host.exchange(Command::Poll, &[0x81, 3]).bill, Some(Bill::Repeated));
     }
 
     #[test]

@@ -14,6 +14,7 @@ use crate::recording::{self, Bad, Pieces, Record};
 use crate::replay::{Bench, Played, Rooms};
 use crate::validator::{self, Bill, Damage};
 use crate::wrong_stops;
+use crate::wrong_tables::Tables;
 
 /// What a recording reached, or why it is bad.
 pub fn reached(bytes: &[u8]) -> Reached<Place> {
@@ -180,6 +181,9 @@ struct Watch {
     /// Whether it was closed by silence after a hand-over again.
     silent: bool,
     errors: Errors,
+    tables: Tables,
+    /// How many bill tables were read.
+    described: u32,
     /// Whether something happened that the stop after two unknowns is about: a command closed unknown, or a clear.
     may_stop: bool,
     /// Whether the last record was a clear.
@@ -199,6 +203,8 @@ impl Watch {
             naks: 0,
             silent: false,
             errors: Errors::default(),
+            tables: Tables::default(),
+            described: 0,
             may_stop: false,
             cleared: false,
         }
@@ -222,6 +228,7 @@ impl Watch {
         }
         self.pushed_out();
         self.last_errors();
+        self.tables.ended(&mut self.all);
         self.all
     }
 
@@ -536,7 +543,10 @@ impl Watch {
 
     fn validator(&mut self, record: Record, phase: validator::Phase, step: validator::Step) {
         match record {
-            Record::Ask(_) => self.validator = Line::default(),
+            Record::Ask(command) => {
+                self.validator = Line::default();
+                self.tables.asked(command);
+            }
             Record::Tick(ms) => {
                 self.validator.pass(ms);
                 self.validator_waited(phase, step);
@@ -546,10 +556,12 @@ impl Watch {
         }
         if let Some(closing) = step.closing {
             self.validator_closed(closing);
+            self.described(closing);
         }
         match (step.bill, step.closing) {
             (Some(Bill::Credited), Some(validator::Closing::Answered(Class::Bill(_, kind)))) => {
-                self.all.part(Place::BillCredited, usize::from(kind))
+                self.all.part(Place::BillCredited, usize::from(kind));
+                self.tables.credited(kind);
             }
             (Some(Bill::Repeated), _) => self.all.mark(Place::BillRepeated),
             _ => {}
@@ -591,6 +603,30 @@ impl Watch {
             _ => {}
         }
         line.since_byte = 0;
+    }
+
+    /// What a closing says of the bill table.
+    fn described(&mut self, closing: validator::Closing) {
+        use validator::Closing;
+        match closing {
+            Closing::Damaged(_) => return self.tables.damaged(),
+            Closing::Silent => return self.tables.silent(),
+            _ => {}
+        }
+        let Ok(body) = ccnet_frame::body(&self.validator.frame) else { return };
+        self.tables.answered(body);
+        if closing == Closing::Answered(Class::Table) {
+            self.described += 1;
+        }
+        if self.described == 2 {
+            self.all.mark(Place::TableSecond);
+        }
+        match body.len() {
+            _ if self.tables.command() != validator::Command::Table => {}
+            121 => self.all.part(Place::TableOver, 0),
+            122.. => self.all.part(Place::TableOver, 1),
+            _ => {}
+        }
     }
 
     fn validator_closed(&mut self, closing: validator::Closing) {

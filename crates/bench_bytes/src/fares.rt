@@ -115,6 +115,8 @@ pub(crate) fn of_body(s: &[u8]) -> u8 {
         Class::Stacked(b) => carried(STACKED, b, s),
         Class::Returned(b) => carried(RETURNED, b, s),
         Class::Unknown => UNKNOWN,
+        // No body by itself is a bill table.
+        Class::Table => ODD,
     }
 }
 

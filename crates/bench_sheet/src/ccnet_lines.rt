@@ -135,6 +135,7 @@ fn print_class(class: Class) {
         Class::Stacked(b) => print_value(b" -> stacked type #\n", b),
         Class::Returned(b) => print_value(b" -> returned type #\n", b),
         Class::Unknown => sheet::print_text(b" -> unknown\n"),
+        Class::Table => sheet::print_text(b" -> table\n"),
     }
 }
 

@@ -1,5 +1,5 @@
 // What a call of the validator session answered, and what the session keeps.
-ghost use Prim.Native.Nat.{_≤_};
+ghost use Prim.Native.Nat.{_≤_, _<_};
 use ccnet_frame::Class;
 use refusals::Put;
 use validator_rules::Bills;
@@ -49,6 +49,7 @@ fn answered(class: Class) {
         Class::Escrow(y) => told(b"    closed, answered, escrow, type #\n", y),
         Class::Stacked(y) => told(b"    closed, answered, stacked, type #\n", y),
         Class::Returned(y) => told(b"    closed, answered, returned, type #\n", y),
+        Class::Table => sheet::print_text(b"    closed, answered, table\n"),
         _ => sheet::print_text(b"    closed, answered, unknown\n"),
     }
 }
@@ -57,10 +58,37 @@ fn told(form: &[u8], b: u8) {
     sheet::print_form(form, &[b as u32]);
 }
 
-// The bills of each type of which there are any, and how many bytes of the gathering store are not 0.
+// The bills of each type of which there are any, the words of the bill table that are not all 0, and how many bytes of the gathering store are not 0.
 pub(crate) fn kept(session: Session) {
     bills(session.bills);
+    words(&session.table);
     store(&session.store);
+}
+
+fn words(table: &[u8]) {
+    let mut y: usize = 0;
+    while y < 24 {
+        word(y, table);
+        y += 1;
+    }
+}
+
+fn word(y: usize, table: &[u8])
+    requires { ⌜ y < 24 ⌝ }
+{
+    let start = sheet::at_most(5 * y, table);
+    let end = sheet::at_most(5 * y + 5, table);
+    if used(&table[start..]) == used(&table[end..]) {
+        return;
+    }
+    sheet::print_form(b"    word #:", &[y as u32]);
+    print_first(&table[start..]);
+    sheet::print_text(b"\n");
+}
+
+fn print_first(bytes: &[u8]) {
+    let end = sheet::at_most(5, bytes);
+    sheet::print_bytes(&bytes[0..end]);
 }
 
 fn bills(counts: [Bills; 24]) {

@@ -12,7 +12,7 @@ use Rattle.refusals.proofs.Rules.{by-cases, holds-true, fails-false, cond-true,
 use Rattle.ccnet_frame.specs.Class.{isState, isRejection, isFailure, isType, oneByte, twoBytes, classOf, classBytes, isNamed}
 use Rattle.ccnet_frame.specs.Promises.{Classes}
 use Rattle.ccnet_frame.specs.declared.class.Class.{Class}
-use Rattle.ccnet_frame.specs.declared.class.Class.the-variants.{Ack, Nak, Illegal, State, Busy, Rejecting, Failing, Escrow, Stacked, Returned, Unknown}
+use Rattle.ccnet_frame.specs.declared.class.Class.the-variants.{Ack, Nak, Illegal, State, Busy, Rejecting, Failing, Escrow, Stacked, Returned, Unknown, Table}
 
 -- by how many bytes the body has
 pub class-one : (s : List ℕ) → length s ≡ 1 → oneByte (getD s 0 0) ≡ classOf s
@@ -60,6 +60,7 @@ back (Escrow b) h = simp (holds-true (isType b) h)
 back (Stacked b) h = simp (holds-true (isType b) h)
 back (Returned b) h = simp (holds-true (isType b) h)
 back Unknown h = absurd h
+back Table h = absurd h
 
 -- ---- every body is unknown or has the bytes of its class
 
@@ -101,6 +102,9 @@ classes =
     record {
       back = back;
       again = λ s n. ⊎-elim (λ e. absurd (n e)) (λ t. t) (found s);
+      no-table = λ s e.
+          ⊎-elim (λ u. let v : Table ≡ Unknown = sym e ∙ u in let z : _≡_ {A = ℕ} 0 1 = cc in omega arith)
+          (λ t. subst (λ (k : Class). isNamed k .holds) e (t .0)) (found s);
       rest = λ s. (
         λ e c h q. subst (λ (k : Class). isNamed k .holds) (sym (back c h) ∙ ap classOf (sym q) ∙ e) h,
         λ f. ⊎-elim (λ e. e) (λ t. absurd (f (classOf s) (t .0) (sym (t .1)))) (found s),

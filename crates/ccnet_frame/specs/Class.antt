@@ -3,7 +3,7 @@ use Prim.Native.Nat.{ℕ}
 use mathlib.Core.List.{List, [], _∷_}
 use Rattle.refusals.specs.Rules.{Condition, always, never, same, within, both, either, firstOf, _gives_}
 use Rattle.ccnet_frame.specs.declared.class.Class.{Class}
-use Rattle.ccnet_frame.specs.declared.class.Class.the-variants.{Ack, Nak, Illegal, State, Busy, Rejecting, Failing, Escrow, Stacked, Returned, Unknown}
+use Rattle.ccnet_frame.specs.declared.class.Class.the-variants.{Ack, Nak, Illegal, State, Busy, Rejecting, Failing, Escrow, Stacked, Returned, Unknown, Table}
 
 -- "one byte 10h to 15h, 17h to 1Ah, 41h to 46h"
 abbrev pub isState : ℕ → Condition
@@ -63,7 +63,7 @@ listed (a ∷ b ∷ []) =
     (either (both (same a 0x47) (either (within 0x50 0x56 b) (same b 0x5F))) (both (within 0x80 0x82 a) (within 0 23 b))))
 listed (a ∷ b ∷ c ∷ s) = never
 
--- the bytes of each class; an unknown body has none of its own
+-- the bytes of each class; an unknown body and a bill table have none of their own
 abbrev pub classBytes : Class → List ℕ
 classBytes Ack = 0x00 ∷ []
 classBytes Nak = 0xFF ∷ []
@@ -76,8 +76,9 @@ classBytes (Escrow b) = 0x80 ∷ b ∷ []
 classBytes (Stacked b) = 0x81 ∷ b ∷ []
 classBytes (Returned b) = 0x82 ∷ b ∷ []
 classBytes Unknown = []
+classBytes Table = []
 
--- a class other than unknown whose byte is one of those that 01 lists for it
+-- a class other than these two whose byte is one of those that 01 lists for it
 abbrev pub isNamed : Class → Condition
 isNamed Ack = always
 isNamed Nak = always
@@ -90,3 +91,4 @@ isNamed (Escrow b) = isType b
 isNamed (Stacked b) = isType b
 isNamed (Returned b) = isType b
 isNamed Unknown = never
+isNamed Table = never

@@ -14,7 +14,7 @@ use Rattle.ccnet_frame.specs.Class.{classOf, classBytes, isNamed}
 use Rattle.ccnet_frame.specs.declared.frame.Fault.{Fault}
 use Rattle.ccnet_frame.specs.declared.frame.Judged.the-variants.{Good, Refused}
 use Rattle.ccnet_frame.specs.declared.class.Class.{Class}
-use Rattle.ccnet_frame.specs.declared.class.Class.the-variants.{Unknown}
+use Rattle.ccnet_frame.specs.declared.class.Class.the-variants.{Unknown, Table}
 
 -- reading undoes writing, for every address and every body: what was put is good, with its address and its body. And whatever is good,
 -- written again with its address and its body, is the same bytes. A command's body is its code and data
@@ -43,8 +43,10 @@ pub record InOrder : Type 0 where
   pub read : (s : List ℕ) → numbered faultNumber (faults s) ≡ 11 ∷ 12 ∷ 11 ∷ 15 ∷ []
   pub write : (address : ℕ) (body room : List ℕ) → numbered refusalNumber (frameRefusals address body room) ≡ 2 ∷ 1 ∷ 2 ∷ []
 
--- every body falls in one class; a listed class is that of its bytes, and its bytes are the body; unknown is exactly the rest
+-- every body falls in one class; a listed class is that of its bytes, and its bytes are the body; unknown is exactly the rest. No body by itself is a bill table: that is
+-- the class of an answer to one command (02, Q-1)
 pub record Classes : Type 0 where
   pub back : (c : Class) → isNamed c .holds → classOf (classBytes c) ≡ c
   pub again : (s : List ℕ) → (classOf s ≡ Unknown → ⊥) → isNamed (classOf s) .holds × (classBytes (classOf s) ≡ s)
+  pub no-table : (s : List ℕ) → classOf s ≡ Table → ⊥
   pub rest : (s : List ℕ) → (classOf s ≡ Unknown) ↔ ((c : Class) → isNamed c .holds → s ≡ classBytes c → ⊥)

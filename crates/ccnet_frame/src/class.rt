@@ -24,6 +24,8 @@ pub enum Class {
     Returned(u8),
     // Any other body.
     Unknown,
+    // The bill table, in answer to GET BILL TABLE: the command tells it, and no body by itself.
+    Table,
 }
 
 // The highest bill type.

@@ -365,8 +365,8 @@ counts d d′ x e =
 
 -- ---- the parts
 
-pub joins : (r : Run) {a b : Shelf} {bs cs : List Bills} (store store255 : List ℕ) → a ≡ b → bs ≡ cs → joined r a bs store store255 ≡ joined r b cs store store255
-joins r store store255 e f = ap₂ (λ x y. joined r x y store store255) e f
+pub joins : (r : Run) {a b : Shelf} {bs cs : List Bills} (store store255 table : List ℕ) → a ≡ b → bs ≡ cs → joined r a bs store store255 table ≡ joined r b cs store store255 table
+joins r store store255 table e f = ap₂ (λ x y. joined r x y store store255 table) e f
 
 -- what was written down is in its slot, or nowhere
 pub in-slot : (ks : List KeptRequest) (w : Written) → w .slot < 32 → set ks (w .slot) (w .request) ≡ slotsAfter ks w

@@ -41,6 +41,7 @@ fn bad(why: Fault, at: u32) -> Findings
         account: Account::fresh(),
         errors: LastErrors::fresh(),
         bills: [Bills(0); 24],
+        table: [0; 120],
         declined: 0,
         records: 0,
         ending: Ending::Bad(why, at),
@@ -73,13 +74,14 @@ fn rejoined(
     bills: [Bills; 24],
     store: [u8; 21],
     store255: [u8; 255],
+    table: [u8; 120],
     reader: Reader,
     fed: u64,
 ) -> Replaying
     requires { ⌜ run .declined ≤ 4_294_967_295 ⌝ }
     requires { ⌜ run .records ≤ 4_294_967_295 ⌝ }
     requires { ⌜ fed ≤ 4_294_967_295 ⌝ }
-    ensures { λ r. ⌜ r ≡ replayOn (joined run (shelf books slots) bills store store255) reader fed ⌝ }
+    ensures { λ r. ⌜ r ≡ replayOn (joined run (shelf books slots) bills store store255 table) reader fed ⌝ }
 {
     let payer = run.payer;
     let asked = run.asked;
@@ -105,6 +107,7 @@ fn rejoined(
                 line: taker,
                 bills,
                 store: store255,
+                table,
             },
             errors,
             declined,
@@ -193,6 +196,7 @@ fn through(replay: Replaying, piece: &[u8]) -> Replaying
     let mut bills = validator.bills;
     let mut store = dispenser.store;
     let mut store255 = validator.store;
+    let mut table = validator.table;
     let mut cut = is_begun(begun);
     let mut glances = glances_in(cut, piece);
     let all = glances_in(false, piece);
@@ -206,7 +210,17 @@ fn through(replay: Replaying, piece: &[u8]) -> Replaying
                     Fault::Cut => {
                         let reader = reader_after(reader_at(cut, begun), at, piece, i);
                         let end = fed + piece.len() as u64;
-                        return rejoined(run, books, slots, bills, store, store255, reader, end);
+                        return rejoined(
+                            run,
+                            books,
+                            slots,
+                            bills,
+                            store,
+                            store255,
+                            table,
+                            reader,
+                            end,
+                        );
                     }
                     _ => {
                         return broken(why, start_of(cut, begun, at));
@@ -214,7 +228,7 @@ fn through(replay: Replaying, piece: &[u8]) -> Replaying
                 }
             }
             NextRecord::Whole(x, size) => {
-                let moved = step(run, x, &mut store, &mut store255);
+                let moved = step(run, x, &mut store, &mut store255, &mut table);
                 let following = moved.run;
                 run = following;
                 let entry = moved.entry;
@@ -242,7 +256,17 @@ fn through(replay: Replaying, piece: &[u8]) -> Replaying
     }
     let reader = reader_at(cut, begun);
     let end = fed + piece.len() as u64;
-    rejoined(run, books, slots, bills, store, store255, reader, end)
+    rejoined(
+        run,
+        books,
+        slots,
+        bills,
+        store,
+        store255,
+        table,
+        reader,
+        end,
+    )
 }
 
 // The lesser of two lengths.
@@ -316,10 +340,12 @@ pub fn ended(replay: Replaying) -> Findings
             let account = dispenser.account;
             let errors = desk.errors;
             let bills = validator.bills;
+            let table = validator.table;
             Findings {
                 account,
                 errors,
                 bills,
+                table,
                 declined: desk.declined,
                 records: desk.records,
                 ending: Ending::Good,

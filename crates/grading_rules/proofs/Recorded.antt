@@ -152,6 +152,7 @@ as-recorded-whole s xs h e =
         errors-told = λ c.
             ap (λ (f : Findings). lastOf (f .errors) c) g ∙ ap (λ (e : LastErrors). lastOf e c) (errors-told xs) ∙ errors-by-history (calls xs) c;
         bills-told = λ y l. rw (g, taker-ran xs i) (kept-by-history .bills (takerCalls xs i) y l);
+        table-told = rw (g, taker-ran xs i) (kept-by-history .table (takerCalls xs i));
         declined = ap (λ (f : Findings). f .declined) g ∙ declined-ran freshDesk xs ∙ omega (arith, fresh-counts .0);
         all = ap (λ (f : Findings). f .records) g ∙ records-ran freshDesk xs ∙ omega (arith, fresh-counts .1);
       },

@@ -21,7 +21,7 @@ use Rattle.validator_rules.specs.Limits.{types}
 use Rattle.validator_rules.specs.Bills.{bills}
 use Rattle.validator_rules.specs.Session.{sessionRequest as takerRequest, sessionByte as takerByte, sessionTick as takerTick}
 use Rattle.validator_rules.specs.Calls.{Call as TakerCall, request as takerAsks, byte as takerHears, tick as takerWaits, history as takerHistory}
-use Rattle.validator_rules.specs.History.{counted}
+use Rattle.validator_rules.specs.History.{counted, tableBy}
 use Rattle.recording.specs.Record.{mostBytes, InRange, AllInRange}
 use Rattle.recording.specs.Reading.{records, bad, readRecording}
 use Rattle.recording.specs.declared.Fault.{Fault}
@@ -91,6 +91,8 @@ pub record Recorded (f : Findings) (xs : List Record) (i : AllInRange xs) : Type
   pub errors-told : (c : Cassette) → lastOf (f .errors) c ≡ lastErrorIn (commands model2000T (history (calls xs))) c
   -- the bills are those of the validator's history
   pub bills-told : (y : ℕ) → y < types → getD (f .bills) y (bills 0) .0 ≡ counted y (takerHistory (takerCalls xs i))
+  -- the bill table is the one that the same history gives (02, Q-1)
+  pub table-told : f .table ≡ tableBy (takerHistory (takerCalls xs i))
   -- declined is the number of records that a session refused, and records counts them all
   pub declined : f .declined ≡ refusals freshDesk xs
   pub all : f .records ≡ length xs

@@ -14,7 +14,7 @@ use Rattle.dispenser_rules.specs.declared.session.Session.{Session}
 use Rattle.exchange_rules.specs.Limits.{leastRoom}
 use Rattle.validator_rules.specs.Limits.{leastRoom as takerRoom}
 use Rattle.validator_rules.specs.Bills.{noBills}
-use Rattle.validator_rules.specs.Session.{After as TakerAfter, freshSession as freshTaker, sessionRequest as takerRequest, sessionByte as takerByte, sessionTick as takerTick}
+use Rattle.validator_rules.specs.Session.{noTable, After as TakerAfter, freshSession as freshTaker, sessionRequest as takerRequest, sessionByte as takerByte, sessionTick as takerTick}
 use Rattle.validator_rules.specs.declared.session.Reply.{Reply as TakerReply}
 use Rattle.validator_rules.specs.declared.session.Reply.the-variants.{NotDone as TakerNotDone, Done as TakerDone}
 use Rattle.validator_rules.specs.declared.session.Session.{Session as Taker}
@@ -82,11 +82,11 @@ run d (x ∷ xs) = run (given d x) xs
 
 -- what is left for the report
 abbrev pub told : Desk → Findings
-told d = record { account = d .dispenser .account; errors = d .errors; bills = d .validator .bills; declined = d .declined; records = d .records; ending = Good }
+told d = record { account = d .dispenser .account; errors = d .errors; bills = d .validator .bills; table = d .validator .table; declined = d .declined; records = d .records; ending = Good }
 
 -- a bad recording leaves its fault, and nothing else
 abbrev pub badFindings : Fault → ℕ → Findings
-badFindings why at = record { account = freshAccount; errors = noErrors; bills = noBills; declined = 0; records = 0; ending = Bad why at }
+badFindings why at = record { account = freshAccount; errors = noErrors; bills = noBills; table = noTable; declined = 0; records = 0; ending = Bad why at }
 
 -- what a recording says, replayed from a desk on
 abbrev pub replayed : Desk → Reading → Findings

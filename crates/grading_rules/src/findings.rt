@@ -15,6 +15,8 @@ pub struct Findings {
     pub account: Account,
     pub errors: LastErrors,
     pub bills: [Bills; 24],
+    // The last bill table read.
+    pub table: [u8; 120],
     pub declined: u32,
     pub records: u32,
     pub ending: Ending,

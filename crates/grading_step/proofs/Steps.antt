@@ -6,7 +6,7 @@ use Rattle.dispenser_rules.specs.Requests.{slotsAfter}
 use Rattle.dispenser_rules.specs.declared.session.Asked.{Asked}
 use Rattle.dispenser_rules.specs.declared.session.Reply.{Reply}
 use Rattle.dispenser_rules.specs.declared.session.Session.{Session}
-use Rattle.validator_rules.specs.Session.{LentAfter, StepAfter, afterStep}
+use Rattle.validator_rules.specs.Session.{LentAfter, HeardAfter, StepAfter, afterStep, afterByte}
 use Rattle.grading_rules.specs.Replay.{byDispenser, byValidator, byBoth}
 use Rattle.grading_rules.specs.declared.desk.Desk.{Desk}
 use Rattle.grading_step.specs.Scaffolding.{Shelf, shelf, booked, writtenOf, entered}
@@ -25,15 +25,15 @@ pub by-heard : (d : Desk) {w v : ByteAfter} → w ≡ v → byDispenser d (heard
 by-heard d e = ap (λ (w : ByteAfter). byDispenser d (heard (d .dispenser) w)) e
 
 -- a byte from the validator
-pub by-byte : (d : Desk) {w v : LentAfter} → w ≡ v → byValidator d (afterStep (d .validator) w) ≡ byValidator d (afterStep (d .validator) v)
-by-byte d e = ap (λ (x : LentAfter). byValidator d (afterStep (d .validator) x)) e
+pub by-byte : (d : Desk) {w v : HeardAfter} → w ≡ v → byValidator d (afterByte (d .validator) w) ≡ byValidator d (afterByte (d .validator) v)
+by-byte d e = ap (λ (x : HeardAfter). byValidator d (afterByte (d .validator) x)) e
 
 -- a request
 pub by-request : (d : Desk) {w v : StepAfter} → w ≡ v
-    → byValidator d (record { session = record { line = w .step .line; bills = d .validator .bills; store = d .validator .store }; reply = w .step .reply; room = w .room })
-    ≡ byValidator d (record { session = record { line = v .step .line; bills = d .validator .bills; store = d .validator .store }; reply = v .step .reply; room = v .room })
+    → byValidator d (record { session = record { line = w .step .line; bills = d .validator .bills; store = d .validator .store; table = d .validator .table }; reply = w .step .reply; room = w .room })
+    ≡ byValidator d (record { session = record { line = v .step .line; bills = d .validator .bills; store = d .validator .store; table = d .validator .table }; reply = v .step .reply; room = v .room })
 by-request d e =
-    ap (λ (x : StepAfter). byValidator d (record { session = record { line = x .step .line; bills = d .validator .bills; store = d .validator .store }; reply = x .step .reply; room = x .room })) e
+    ap (λ (x : StepAfter). byValidator d (record { session = record { line = x .step .line; bills = d .validator .bills; store = d .validator .store; table = d .validator .table }; reply = x .step .reply; room = x .room })) e
 
 -- a tick, for both
 abbrev ticked : Session → Done → After
@@ -45,8 +45,8 @@ ticked s w =
     }
 
 pub by-tick : (d : Desk) {x y : Done} {w v : LentAfter} → x ≡ y → w ≡ v
-    → byBoth d (ticked (d .dispenser) x) (afterStep (d .validator) w) ≡ byBoth d (ticked (d .dispenser) y) (afterStep (d .validator) v)
-by-tick d e f = ap₂ (λ (x : Done) (w : LentAfter). byBoth d (ticked (d .dispenser) x) (afterStep (d .validator) w)) e f
+    → byBoth d (ticked (d .dispenser) x) (afterStep (d .validator) w (d .validator .table)) ≡ byBoth d (ticked (d .dispenser) y) (afterStep (d .validator) v (d .validator .table))
+by-tick d e f = ap₂ (λ (x : Done) (w : LentAfter). byBoth d (ticked (d .dispenser) x) (afterStep (d .validator) w (d .validator .table))) e f
 
 -- ---- what a byte or a tick books
 

@@ -60,12 +60,12 @@ shelf b ks = record { books = b; slots = ks }
 unfoldable pub entered : Shelf → Asked → ℕ → Entry → Shelf
 entered a c n e = shelf (booked (a .books) c e) (slotsAfter (a .slots) (writtenOf (booked (a .books) c e .place) c n e))
 
--- the parts, joined: what changes with each record, books and bills, the gathering stores
-abbrev pub joined : Run → Shelf → List Bills → List ℕ → List ℕ → Desk
-joined r a bs store store255 =
+-- the parts, joined: what changes with each record, books and bills, the gathering stores, the bill table
+abbrev pub joined : Run → Shelf → List Bills → List ℕ → List ℕ → List ℕ → Desk
+joined r a bs store store255 table =
     record {
       dispenser = record { line = r .payer; asked = r .asked; account = record { cassettes = a .books .cassettes; requests = record { place = a .books .place; slots = a .slots } }; store = store };
-      validator = record { line = r .taker; bills = bs; store = store255 };
+      validator = record { line = r .taker; bills = bs; store = store255; table = table };
       errors = a .books .errors;
       declined = r .declined;
       records = r .records;

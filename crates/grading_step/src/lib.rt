@@ -178,7 +178,7 @@ fn heard(reply: dispenser_rules::Reply, again: bool) -> Entry
 fn requested(run: Run, code: u8, upper: u32, lower: u32) -> Moved
     requires { ⌜ run .declined < 4_294_967_296 ⌝ }
     requires { ⌜ run .records < 4_294_967_296 ⌝ }
-    ensures { λ r. ⌜ ((a : Shelf) (bs : List Bills) (store store255 : List ℕ) → joined (r .run) (entered a (r .run .asked) (r .run .payer .handed) (r .entry)) (bookedBy bs (r .bill)) store store255 ≡ given (joined run a bs store store255) (Request code upper lower)) ⌝ }
+    ensures { λ r. ⌜ ((a : Shelf) (bs : List Bills) (store store255 table : List ℕ) → joined (r .run) (entered a (r .run .asked) (r .run .payer .handed) (r .entry)) (bookedBy bs (r .bill)) store store255 table ≡ given (joined run a bs store store255 table) (Request code upper lower)) ⌝ }
 {
     let payer = run.payer;
     let asked = run.asked;
@@ -201,7 +201,7 @@ fn requested(run: Run, code: u8, upper: u32, lower: u32) -> Moved
 fn dispenser_byte(run: Run, store: &mut [u8; 21], b: u8) -> Moved
     requires { ⌜ run .declined < 4_294_967_296 ⌝ }
     requires { ⌜ run .records < 4_294_967_296 ⌝ }
-    ensures { λ r. ⌜ ((a : Shelf) (bs : List Bills) (store255 : List ℕ) → joined (r .run) (entered a (r .run .asked) (r .run .payer .handed) (r .entry)) (bookedBy bs (r .bill)) (now (store .exit)) store255 ≡ given (joined run a bs (now (store .entry)) store255) (DispenserByte b)) ⌝ }
+    ensures { λ r. ⌜ ((a : Shelf) (bs : List Bills) (store255 table : List ℕ) → joined (r .run) (entered a (r .run .asked) (r .run .payer .handed) (r .entry)) (bookedBy bs (r .bill)) (now (store .exit)) store255 table ≡ given (joined run a bs (now (store .entry)) store255 table) (DispenserByte b)) ⌝ }
 {
     let payer = run.payer;
     let asked = run.asked;
@@ -225,7 +225,7 @@ fn dispenser_byte(run: Run, store: &mut [u8; 21], b: u8) -> Moved
 fn ticked(run: Run, store255: &mut [u8; 255], ms: u32) -> Moved
     requires { ⌜ run .declined < 4_294_967_296 ⌝ }
     requires { ⌜ run .records < 4_294_967_296 ⌝ }
-    ensures { λ r. ⌜ ((a : Shelf) (bs : List Bills) (store : List ℕ) → joined (r .run) (entered a (r .run .asked) (r .run .payer .handed) (r .entry)) (bookedBy bs (r .bill)) store (now (store255 .exit)) ≡ given (joined run a bs store (now (store255 .entry))) (Tick ms)) ⌝ }
+    ensures { λ r. ⌜ ((a : Shelf) (bs : List Bills) (store table : List ℕ) → joined (r .run) (entered a (r .run .asked) (r .run .payer .handed) (r .entry)) (bookedBy bs (r .bill)) store (now (store255 .exit)) table ≡ given (joined run a bs store (now (store255 .entry)) table) (Tick ms)) ⌝ }
 {
     let payer = run.payer;
     let asked = run.asked;
@@ -251,16 +251,16 @@ fn ticked(run: Run, store255: &mut [u8; 255], ms: u32) -> Moved
 }
 
 // A byte from the validator.
-fn validator_byte(run: Run, store255: &mut [u8; 255], b: u8) -> Moved
+fn validator_byte(run: Run, store255: &mut [u8; 255], table: &mut [u8; 120], b: u8) -> Moved
     requires { ⌜ run .declined < 4_294_967_296 ⌝ }
     requires { ⌜ run .records < 4_294_967_296 ⌝ }
-    ensures { λ r. ⌜ ((a : Shelf) (bs : List Bills) (store : List ℕ) → joined (r .run) (entered a (r .run .asked) (r .run .payer .handed) (r .entry)) (bookedBy bs (r .bill)) store (now (store255 .exit)) ≡ given (joined run a bs store (now (store255 .entry))) (ValidatorByte b)) ⌝ }
+    ensures { λ r. ⌜ ((a : Shelf) (bs : List Bills) (store : List ℕ) → joined (r .run) (entered a (r .run .asked) (r .run .payer .handed) (r .entry)) (bookedBy bs (r .bill)) store (now (store255 .exit)) (now (table .exit)) ≡ given (joined run a bs store (now (store255 .entry)) (now (table .entry))) (ValidatorByte b)) ⌝ }
 {
     let payer = run.payer;
     let asked = run.asked;
     let taker = run.taker;
     let mut room255 = [0u8; 255];
-    let step = validator::step_byte(taker, store255, b, &mut room255);
+    let step = validator::step_byte(taker, store255, table, b, &mut room255);
     let next = step.line;
     let reply = step.reply;
     let bill = step.bill;
@@ -277,7 +277,7 @@ fn validator_byte(run: Run, store255: &mut [u8; 255], b: u8) -> Moved
 fn commanded(run: Run, code: u8) -> Moved
     requires { ⌜ run .declined < 4_294_967_296 ⌝ }
     requires { ⌜ run .records < 4_294_967_296 ⌝ }
-    ensures { λ r. ⌜ ((a : Shelf) (bs : List Bills) (store store255 : List ℕ) → joined (r .run) (entered a (r .run .asked) (r .run .payer .handed) (r .entry)) (bookedBy bs (r .bill)) store store255 ≡ given (joined run a bs store store255) (Command code)) ⌝ }
+    ensures { λ r. ⌜ ((a : Shelf) (bs : List Bills) (store store255 table : List ℕ) → joined (r .run) (entered a (r .run .asked) (r .run .payer .handed) (r .entry)) (bookedBy bs (r .bill)) store store255 table ≡ given (joined run a bs store store255 table) (Command code)) ⌝ }
 {
     let payer = run.payer;
     let asked = run.asked;
@@ -299,7 +299,7 @@ fn commanded(run: Run, code: u8) -> Moved
 fn cleared(run: Run) -> Moved
     requires { ⌜ run .declined < 4_294_967_296 ⌝ }
     requires { ⌜ run .records < 4_294_967_296 ⌝ }
-    ensures { λ r. ⌜ ((a : Shelf) (bs : List Bills) (store store255 : List ℕ) → joined (r .run) (entered a (r .run .asked) (r .run .payer .handed) (r .entry)) (bookedBy bs (r .bill)) store store255 ≡ given (joined run a bs store store255) Clear) ⌝ }
+    ensures { λ r. ⌜ ((a : Shelf) (bs : List Bills) (store store255 table : List ℕ) → joined (r .run) (entered a (r .run .asked) (r .run .payer .handed) (r .entry)) (bookedBy bs (r .bill)) store store255 table ≡ given (joined run a bs store store255 table) Clear) ⌝ }
 {
     let payer = run.payer;
     let asked = run.asked;
@@ -317,16 +317,22 @@ fn cleared(run: Run) -> Moved
 }
 
 // A record, given to the session that it is for.
-pub fn step(run: Run, x: Record, store: &mut [u8; 21], store255: &mut [u8; 255]) -> Moved
+pub fn step(
+    run: Run,
+    x: Record,
+    store: &mut [u8; 21],
+    store255: &mut [u8; 255],
+    table: &mut [u8; 120],
+) -> Moved
     requires { ⌜ run .declined < 4_294_967_296 ⌝ }
     requires { ⌜ run .records < 4_294_967_296 ⌝ }
-    ensures { λ r. ⌜ ((a : Shelf) (bs : List Bills) → joined (r .run) (entered a (r .run .asked) (r .run .payer .handed) (r .entry)) (bookedBy bs (r .bill)) (now (store .exit)) (now (store255 .exit)) ≡ given (joined run a bs (now (store .entry)) (now (store255 .entry))) x) ⌝ }
+    ensures { λ r. ⌜ ((a : Shelf) (bs : List Bills) → joined (r .run) (entered a (r .run .asked) (r .run .payer .handed) (r .entry)) (bookedBy bs (r .bill)) (now (store .exit)) (now (store255 .exit)) (now (table .exit)) ≡ given (joined run a bs (now (store .entry)) (now (store255 .entry)) (now (table .entry))) x) ⌝ }
 {
     match x {
         Record::Request { code, upper, lower } => requested(run, code, upper, lower),
         Record::DispenserByte(b) => dispenser_byte(run, store, b),
         Record::Tick(ms) => ticked(run, store255, ms),
-        Record::ValidatorByte(b) => validator_byte(run, store255, b),
+        Record::ValidatorByte(b) => validator_byte(run, store255, table, b),
         Record::Command(code) => commanded(run, code),
         Record::Clear => cleared(run),
     }

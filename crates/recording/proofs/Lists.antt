@@ -36,22 +36,24 @@ listed-below : (code : ℕ) → inList code .holds → code < 256
 unfolding inList among
 listed-below code =
     ⊎-elim (λ e. omega arith) (⊎-elim (λ e. omega arith) (⊎-elim (λ e. omega arith) (⊎-elim (λ e. omega arith)
-    (⊎-elim (λ e. omega arith) (λ n. absurd n)))))
+    (⊎-elim (λ e. omega arith) (⊎-elim (λ e. omega arith) (λ n. absurd n))))))
 
--- of the five codes, the last, where it is none of the others
-pub last-listed : (code : ℕ) → (code ≡ 0x30 → ⊥) → (code ≡ 0x33 → ⊥) → (code ≡ 0x35 → ⊥) → (code ≡ 0x36 → ⊥) → eqb code 0x38 ≡ inList code .test
+-- of the six codes, the last, where it is none of the others
+pub last-listed : (code : ℕ) → (code ≡ 0x30 → ⊥) → (code ≡ 0x33 → ⊥) → (code ≡ 0x35 → ⊥) → (code ≡ 0x36 → ⊥) → (code ≡ 0x38 → ⊥)
+    → eqb code 0x41 ≡ inList code .test
 unfolding inList among
-last-listed code a b c d =
-    by-cases (same code 0x38)
+last-listed code a b c d f =
+    by-cases (same code 0x41)
     (λ e. rw e)
     (λ e.
     simp (
-      ne-eqb code 0x38 e,
+      ne-eqb code 0x41 e,
       ne-eqb 0x30 code (λ y. a (sym y)),
       ne-eqb 0x33 code (λ y. b (sym y)),
       ne-eqb 0x35 code (λ y. c (sym y)),
       ne-eqb 0x36 code (λ y. d (sym y)),
-      ne-eqb 0x38 code (λ y. e (sym y)),
+      ne-eqb 0x38 code (λ y. f (sym y)),
+      ne-eqb 0x41 code (λ y. e (sym y)),
     ))
 
 pub listed-same : (code : ℕ) → inList code .test ≡ true → code % 256 ≡ code

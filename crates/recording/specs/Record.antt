@@ -22,9 +22,9 @@ faultNumber Long = tooLong
 abbrev pub mostBytes : ℕ
 mostBytes = 4_294_967_295
 
--- kind 4: "code (30h, 33h, 35h, 36h, 38h)"
+-- kind 4: "code (30h, 33h, 35h, 36h, 38h)"; "Kind 4 records may hold 41h" (02, Q-1)
 unfoldable pub inList : ℕ → Condition
-inList code = among code (0x30 ∷ 0x33 ∷ 0x35 ∷ 0x36 ∷ 0x38 ∷ [])
+inList code = among code (0x30 ∷ 0x33 ∷ 0x35 ∷ 0x36 ∷ 0x38 ∷ 0x41 ∷ [])
 
 -- "0 code upper lower; 1 dispenser byte; 2 milliseconds; 3 validator byte; 4 code"; kind 5 for clear, "with no further number" (02, Q-9)
 abbrev pub kindOf : Record → ℕ

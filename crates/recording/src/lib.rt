@@ -140,7 +140,10 @@ pub fn is_command(code: u32) -> bool
     if code == 0x36 {
         return true;
     }
-    code == 0x38
+    if code == 0x38 {
+        return true;
+    }
+    code == 0x41
 }
 
 // Is the code in the dispenser's table?

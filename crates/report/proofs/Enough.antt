@@ -38,16 +38,26 @@ use Rattle.recording.specs.declared.Record.{Record}
 use Rattle.recording.specs.declared.Record.the-variants.{Request, DispenserByte, Tick, ValidatorByte, Command, Clear}
 use Rattle.recording.proofs.Exact.{exactly-when}
 use Rattle.recording.proofs.Back.{length-record}
-use Rattle.report.specs.Text.{bytesOf, longest}
+use Rattle.report_lines.specs.Text.{bytesOf}
+use Rattle.report.specs.Text.{longest}
 use Rattle.grading_rules.specs.Replay.{freshDesk, given, run}
 use Rattle.grading_rules.specs.Feeding.{replayOf}
 use Rattle.grading_rules.specs.declared.desk.Desk.{Desk}
-use Rattle.report.specs.Report.{field, line, lines, paidPart, unpaidPart, sumsLine, lastName, errorLine, typeLine, typeLines, goodLines, badLine, reportText, reportOf}
+use Rattle.report_lines.specs.Lines.{field, line, lines, paidPart, unpaidPart, sumsLine, lastName, errorLine}
+use Rattle.report.specs.Report.{valueLine, typeLine, typeLines, goodLines, badLine, reportText, reportOf}
 use Rattle.grading_rules.specs.Promises.{calls, takerCalls, refuses, refusals}
 use Rattle.report.specs.Promises.{Enough}
 use Rattle.grading_rules.specs.declared.findings.Findings.{Findings}
-use Rattle.report.proofs.Adding.{ten}
-use Rattle.report.proofs.Lines.{lines-none, lines-one, lines-more, lines-append, two, type-none, type-seen, types-nil, types-cons}
+use Rattle.bill_table.specs.Table.{wordAt}
+use Rattle.bill_table.specs.Worth.{totalOf}
+use Rattle.bill_table.specs.declared.Word.{Word}
+use Rattle.bill_table.specs.declared.Total.{Total}
+use Rattle.bill_table.specs.declared.Total.the-variants.{NoValue, Sum, Refused}
+use Rattle.report_lines.proofs.Adding.{ten}
+use Rattle.report.proofs.Values.{total-fits, value-most}
+use Rattle.report.proofs.TableBytes.{first-small}
+use Rattle.report_lines.proofs.Lines.{lines-none, lines-one, lines-more, lines-append}
+use Rattle.report.proofs.Types.{two, type-none, type-seen, types-nil, types-cons}
 use Rattle.grading_rules.proofs.Cuts.{as-read}
 use Rattle.grading_rules.proofs.Recorded.{good-replay, session-ran, as-recorded-whole}
 
@@ -96,19 +106,31 @@ sums-most name s h f =
       ten (s .rejected .0) (f .rejected),
     ))
 
-type-most : (y : ℕ) (n : Bills) → y ≤ 23 → n .0 < end32 → length (lines (typeLine y n)) ≤ 25
-type-most y n h l =
-    by-cases (same (n .0) 0)
-    (λ e. rw (type-none y n e) (omega arith))
-    (λ e. rw (type-seen y n e) (simp length-append (omega (arith, two y h, ten (n .0) l))))
+worth-most : (w : Word) (n : ℕ) → w .first < 256 → length (lines (valueLine (totalOf w n))) ≤ 31
+worth-most w n small = by (totalOf w n) refl
+  where
+    by : (t : Total) → totalOf w n ≡ t → length (lines (valueLine t)) ≤ 31
+    by NoValue e = rw lines-none (omega arith)
+    by (Sum v) e = rw lines-one (value-most v (total-fits w n v small e))
+    by (Refused why) e = rw lines-none (omega arith)
 
-types-most : (ns : List Bills) (y : ℕ) → y + length ns ≤ 24 → ((k : ℕ) → k < length ns → getD ns k (bills 0) .0 < end32)
-    → length (lines (typeLines y ns)) ≤ 25 * length ns
-types-most [] y h f = rw (types-nil, lines-none) (omega arith)
-types-most (n ∷ ns) y h f =
+type-most : (w : Word) (y : ℕ) (n : Bills) → w .first < 256 → y ≤ 23 → n .0 < end32 → length (lines (typeLine w y n)) ≤ 56
+type-most w y n small h l =
+    by-cases (same (n .0) 0)
+    (λ e. rw (type-none w y n e) (omega arith))
+    (λ e. rw (type-seen w y n e) (simp length-append (omega (arith, two y h, ten (n .0) l, worth-most w (n .0) small))))
+
+types-most : (t : List ℕ) → ((k : ℕ) → wordAt t k .first < 256) → (ns : List Bills) (y : ℕ) → y + length ns ≤ 24
+    → ((k : ℕ) → k < length ns → getD ns k (bills 0) .0 < end32) → length (lines (typeLines t y ns)) ≤ 56 * length ns
+types-most t small [] y h f = rw (types-nil, lines-none) (omega arith)
+types-most t small (n ∷ ns) y h f =
     rw (types-cons, lines-append)
     (simp length-append
-    (omega (arith, type-most y n (omega arith) (f 0 (omega arith)), types-most ns (suc y) (omega arith) (λ k l. f (suc k) (omega arith)))))
+    (omega (
+      arith,
+      type-most (wordAt t y) y n (small y) (omega arith) (f 0 (omega arith)),
+      types-most t small ns (suc y) (omega arith) (λ k l. f (suc k) (omega arith)),
+    )))
 
 name-most : (class : ErrorClass) → length (bytesOf (className class)) ≤ 14
 name-most Fine = omega arith
@@ -130,18 +152,18 @@ seven : (a b c d e f g : List ℕ)
     → length (a ++ (b ++ (c ++ (d ++ (e ++ (f ++ g)))))) ≡ length a + (length b + (length c + (length d + (length e + (length f + length g)))))
 seven a b c d e f g = simp length-append
 
-good-most : (a : Cassettes) (es : LastErrors) (bs : List Bills) (declined all : ℕ) → Few (a .upper) → Few (a .lower) → length bs ≡ 24
-    → ((k : ℕ) → k < 24 → getD bs k (bills 0) .0 < end32) → declined < end32 → all < end32 → length (lines (goodLines a es bs declined all)) ≤ longest
-good-most a es bs declined all u l n f d r =
+good-most : (a : Cassettes) (es : LastErrors) (bs : List Bills) (tb : List ℕ) (declined all : ℕ) → ((k : ℕ) → wordAt tb k .first < 256) → Few (a .upper) → Few (a .lower) → length bs ≡ 24
+    → ((k : ℕ) → k < 24 → getD bs k (bills 0) .0 < end32) → declined < end32 → all < end32 → length (lines (goodLines a es bs tb declined all)) ≤ longest
+good-most a es bs tb declined all small u l n f d r =
     rw (lines-more, lines-more, lines-more, lines-more, lines-more, lines-append, lines-one)
     (let p = sums-most (bytesOf "upper") (a .upper) (omega arith) u in
     let q = sums-most (bytesOf "lower") (a .lower) (omega arith) l in
-    let t = types-most bs 0 (omega (arith, n)) (λ k h. f k (omega (arith, n))) in
+    let t = types-most tb small bs 0 (omega (arith, n)) (λ k h. f k (omega (arith, n))) in
     let x : length (line (field "declined " declined)) ≤ 20 = simp length-append (omega (arith, ten declined d)) in
     let y : length (line (field "records " all)) ≤ 19 = simp length-append (omega (arith, ten all r)) in
     let v = error-most (bytesOf "upper last error ") (es .upper) refl in
     let w = error-most (bytesOf "lower last error ") (es .lower) refl in
-    let e = seven (line (sumsLine (bytesOf "upper") (a .upper))) (line (sumsLine (bytesOf "lower") (a .lower))) (line (errorLine (bytesOf "upper last error ") (es .upper))) (line (errorLine (bytesOf "lower last error ") (es .lower))) (line (field "declined " declined)) (lines (typeLines 0 bs)) (line (field "records " all)) in
+    let e = seven (line (sumsLine (bytesOf "upper") (a .upper))) (line (sumsLine (bytesOf "lower") (a .lower))) (line (errorLine (bytesOf "upper last error ") (es .upper))) (line (errorLine (bytesOf "lower last error ") (es .lower))) (line (field "declined " declined)) (lines (typeLines tb 0 bs)) (line (field "records " all)) in
     omega (arith, p, q, t, v, w, x, y, e, n))
 
 small-number : (why : Fault) → faultNumber why < end32
@@ -211,7 +233,8 @@ good-enough s xs h e =
     let b : (k : ℕ) → k < 24 → getD (run freshDesk xs .validator .bills) k (bills 0) .0 < end32
     = λ k l. omega (arith, sym (ap (λ (f : Findings). getD (f .bills) k (bills 0) .0) (good-replay s xs e)) ∙ r .bills-told k l, kept-by-history .few (takerCalls xs (p .0)) k l) in
     rw (good-replay s xs e)
-    (good-most (run freshDesk xs .dispenser .account .cassettes) (run freshDesk xs .errors) (run freshDesk xs .validator .bills) (run freshDesk xs .declined) (run freshDesk xs .records)
+    (good-most (run freshDesk xs .dispenser .account .cassettes) (run freshDesk xs .errors) (run freshDesk xs .validator .bills) (run freshDesk xs .validator .table) (run freshDesk xs .declined) (run freshDesk xs .records)
+    (λ k. subst (λ (t : List ℕ). wordAt t k .first < 256) (sym (sym (ap (λ (f : Findings). f .table) (good-replay s xs e)) ∙ r .table-told)) (first-small (takerCalls xs (p .0)) k))
     (subst (λ (y : Session). Few (y .account .cassettes .upper)) (sym c) (bounded-few (ran host freshSession (calls xs) .account .cassettes .upper) (cut Upper)))
     (subst (λ (y : Session). Few (y .account .cassettes .lower)) (sym c) (bounded-few (ran host freshSession (calls xs) .account .cassettes .lower) (cut Lower)))
     (bills-ran freshDesk xs ∙ fresh-bills)

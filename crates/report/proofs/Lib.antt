@@ -1,4 +1,6 @@
-pub mod Adding
-pub mod Lines
+pub mod Laying
+pub mod Types
+pub mod Values
+pub mod TableBytes
 pub mod Tied
 pub mod Enough

@@ -1,5 +1,4 @@
 -- What the contracts of `report` cite.
 pub mod Text
 pub mod Report
-pub mod Scaffolding
 pub mod Promises

@@ -1,66 +1,50 @@
 -- The report (01, "Recording and report"): its lines, in order, and their text.
 use Prim.Native.Nat.{ℕ, suc}
-use Prim.Native.String.{String}
 use mathlib.Core.Bool.{cond}
 use mathlib.Core.List.{List, [], _∷_, _++_}
 use lib.Dec.{eqb}
 use Rattle.numbers.specs.Decimal.{decimal}
-use Rattle.exchange_rules.specs.declared.notes.Sums.{Sums}
 use Rattle.dispenser_rules.specs.declared.account.Cassettes.{Cassettes}
-use Rattle.dispenser_rules.specs.declared.errors.LastError.{LastError}
-use Rattle.dispenser_rules.specs.declared.errors.LastError.the-variants.{NoneYet, Of}
 use Rattle.dispenser_rules.specs.declared.errors.LastErrors.{LastErrors}
-use Rattle.error_codes.specs.Errors.{className}
+use Rattle.bill_table.specs.Table.{wordAt}
+use Rattle.bill_table.specs.Worth.{totalOf}
+use Rattle.bill_table.specs.declared.Letters.{Letters}
+use Rattle.bill_table.specs.declared.Word.{Word}
+use Rattle.bill_table.specs.declared.Value.{Value}
+use Rattle.bill_table.specs.declared.Total.{Total}
+use Rattle.bill_table.specs.declared.Total.the-variants.{NoValue, Sum, Refused}
 use Rattle.recording.specs.Record.{faultNumber}
 use Rattle.recording.specs.declared.Fault.{Fault}
-use Rattle.report.specs.Text.{bytesOf}
+use Rattle.report_lines.specs.Text.{bytesOf}
+use Rattle.report_lines.specs.Lines.{field, line, lines, sumsLine, errorLine}
 use Rattle.validator_rules.specs.declared.bills.Bills.{Bills}
 use Rattle.grading_rules.specs.Feeding.{replayOf}
 use Rattle.grading_rules.specs.declared.findings.Ending.{Ending}
 use Rattle.grading_rules.specs.declared.findings.Ending.the-variants.{Good, Bad}
 use Rattle.grading_rules.specs.declared.findings.Findings.{Findings}
 
--- a word, and then a number
-abbrev pub field : String → ℕ → List ℕ
-field w n = bytesOf w ++ decimal n
+-- "value 2500 NLC 2": the total as a whole number, letters, decimals" (02, Q-1)
+abbrev pub spaced : Letters → List ℕ
+spaced l = 0x20 ∷ l .0 ∷ l .1 ∷ l .2 ∷ 0x20 ∷ []
 
--- "Every line ends with 0Ah."
-abbrev pub line : List ℕ → List ℕ
-line l = l ++ (0x0A ∷ [])
+abbrev pub valueText : Value → List ℕ
+valueText v = bytesOf "value " ++ (decimal (v .whole) ++ (spaced (v .letters) ++ decimal (v .decimals)))
 
-unfoldable pub lines : List (List ℕ) → List ℕ
-lines [] = []
-lines (l ∷ ls) = line l ++ lines ls
+-- a line where there is a total, and else none
+abbrev pub valueLine : Total → List (List ℕ)
+valueLine NoValue = []
+valueLine (Sum v) = valueText v ∷ []
+valueLine (Refused why) = []
 
--- "upper asked 10 paid 10 short 0 over 0 ..
-unfoldable pub paidPart : List ℕ → Sums → List ℕ
-paidPart name s =
-    name ++ (field " asked " (s .asked .0) ++ (field " paid " (s .paid .0) ++ (field " short " (s .short .0) ++ field " over " (s .over .0))))
-
--- .. refused 0 unknown 0 open 0 rejected 0"
-unfoldable pub unpaidPart : Sums → List ℕ
-unpaidPart s =
-    field " refused " (s .refused .0) ++ (field " unknown " (s .unknown .0) ++ (field " open " (s .pending .0) ++ field " rejected " (s .rejected .0)))
-
-abbrev pub sumsLine : List ℕ → Sums → List ℕ
-sumsLine name s = paidPart name s ++ unpaidPart s
-
--- "upper last error NAME"; "none" before any (02, Q-5)
-abbrev pub lastName : LastError → String
-lastName NoneYet = "none"
-lastName (Of class) = className class
-
-abbrev pub errorLine : List ℕ → LastError → List ℕ
-errorLine name last = name ++ bytesOf (lastName last)
-
--- "A line "type 3 bills 2" per type seen": a type of which there is a bill
-unfoldable pub typeLine : ℕ → Bills → List (List ℕ)
-typeLine y n = cond (eqb (n .0) 0) [] ((field "type " y ++ field " bills " (n .0)) ∷ [])
+-- "A line "type 3 bills 2" per type seen": a type of which there is a bill; and what its bills are worth by its word of the bill table: "After a valued type's "type"
+-- line the report gains "value .."" (02, Q-1)
+unfoldable pub typeLine : Word → ℕ → Bills → List (List ℕ)
+typeLine w y n = cond (eqb (n .0) 0) [] ((field "type " y ++ field " bills " (n .0)) ∷ valueLine (totalOf w (n .0)))
 
 -- "rising", from a type on
-unfoldable pub typeLines : ℕ → List Bills → List (List ℕ)
-typeLines y [] = []
-typeLines y (n ∷ ns) = typeLine y n ++ typeLines (suc y) ns
+unfoldable pub typeLines : List ℕ → ℕ → List Bills → List (List ℕ)
+typeLines t y [] = []
+typeLines t y (n ∷ ns) = typeLine (wordAt t y) y n ++ typeLines t (suc y) ns
 
 -- "after the two cassette lines the report adds "upper last error NAME" and "lower last error NAME"" (02, Q-5)
 abbrev pub cassetteLines : Cassettes → LastErrors → List (List ℕ)
@@ -69,15 +53,15 @@ cassetteLines a es =
     ∷ errorLine (bytesOf "upper last error ") (es .upper) ∷ errorLine (bytesOf "lower last error ") (es .lower) ∷ []
 
 -- the lines of a good recording's report: those of the types stand between "declined" and "records"
-abbrev pub goodLines : Cassettes → LastErrors → List Bills → ℕ → ℕ → List (List ℕ)
-goodLines a es bs declined records = cassetteLines a es ++ (field "declined " declined ∷ (typeLines 0 bs ++ (field "records " records ∷ [])))
+abbrev pub goodLines : Cassettes → LastErrors → List Bills → List ℕ → ℕ → ℕ → List (List ℕ)
+goodLines a es bs t declined records = cassetteLines a es ++ (field "declined " declined ∷ (typeLines t 0 bs ++ (field "records " records ∷ [])))
 
 -- "A bad recording writes only "bad 22 at 7", with its number and the record's offset."
 abbrev pub badLine : Fault → ℕ → List ℕ
 badLine why at = field "bad " (faultNumber why) ++ field " at " at
 
 abbrev pub linesIn : Ending → Findings → List (List ℕ)
-linesIn Good f = goodLines (f .account .cassettes) (f .errors) (f .bills) (f .declined) (f .records)
+linesIn Good f = goodLines (f .account .cassettes) (f .errors) (f .bills) (f .table) (f .declined) (f .records)
 linesIn (Bad why at) f = badLine why at ∷ []
 
 -- the report of what a replay left

@@ -1,15 +1,6 @@
--- Text as bytes, and how long a report can be.
+-- How long a report can be.
 use Prim.Native.Nat.{ℕ}
-use Prim.Native.String.{String, [], _∷_}
-use Prim.Native.Char.{code}
-use mathlib.Core.List as List
-use mathlib.Core.List.{List}
-
--- a text in ASCII
-abbrev pub bytesOf : String → List ℕ
-bytesOf [] = List.[]
-bytesOf (c ∷ s) = List._∷_ (code c) (bytesOf s)
 
 -- no report is longer
 abbrev pub longest : ℕ
-longest = 995
+longest = 1_739

@@ -6,7 +6,7 @@ use mathlib.Core.List.{List}
 use denote.Ref.{now}
 use Rattle.refusals.proofs.Tied.{Is}
 use Rattle.validator_rules.specs.Bills.{bookedBy}
-use Rattle.validator_rules.specs.Session.{stepAfter, lentAfter, after, requestStep, byteStep, tickStep, freshSession, sessionByte}
+use Rattle.validator_rules.specs.Session.{stepAfter, lentAfter, heardAfter, after, requestStep, byteStep, tickStep, freshSession, sessionByte}
 use Rattle.validator_rules.specs.Calls.{request, byte, tick, called}
 use Rattle.validator_rules.specs.declared.session.Session.{Session}
 use Rattle.validator_rules.proofs.session.Session.fresh.Kinds as fresh-kinds
@@ -55,7 +55,7 @@ step-request-cited : Is step-request-kinds.ps step-request-kinds.r step-request-
 step-request-cited κs a x e = refl
 
 step-byte-cited : Is step-byte-kinds.ps step-byte-kinds.r step-byte-reads.Post
-    (λ κs a x e. lentAfter x (now (e .1 .0)) (now (e .1 .1 .1 .0)) ≡ byteStep (a .0) (now (a .1 .0)) (a .1 .1 .0) (now (a .1 .1 .1 .0)))
+    (λ κs a x e. heardAfter (lentAfter x (now (e .1 .0)) (now (e .1 .1 .1 .1 .0))) (now (e .1 .1 .0)) ≡ byteStep (a .0) (now (a .1 .0)) (now (a .1 .1 .0)) (a .1 .1 .1 .0) (now (a .1 .1 .1 .1 .0)))
 step-byte-cited κs a x e = refl
 
 step-tick-cited : Is step-tick-kinds.ps step-tick-kinds.r step-tick-reads.Post

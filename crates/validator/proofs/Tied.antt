@@ -1,5 +1,5 @@
 -- No contract of this crate leaves a choice: two outcomes that it allows for the same arguments coincide, in the result and in every
--- byte of a lent store and room. Said of the contracts themselves, since each is one equation. Assumes nothing.
+-- byte of a lent store, table and room. Said of the contracts themselves, since each is one equation. Assumes nothing.
 use Prim.Native.Nat.{ℕ}
 use mathlib.Core.Path.{ap}
 use mathlib.Core.List.{List}
@@ -30,10 +30,12 @@ fresh-tied = tied fresh.ps fresh.r fresh-reads.Post (λ κs x e. x) _ (λ κs a 
 pub booked-tied : Tied booked.ps booked.r booked-reads.Post (λ κs x e. x)
 booked-tied = tied booked.ps booked.r booked-reads.Post (λ κs x e. x) _ (λ κs a x e p. p)
 
-pub step-byte-tied : Tied step-byte.ps step-byte.r step-byte-reads.Post {A = Step × List ℕ × List ℕ} (λ κs x e. (x, now (e .1 .0), now (e .1 .1 .1 .0)))
+pub step-byte-tied : Tied step-byte.ps step-byte.r step-byte-reads.Post {A = Step × List ℕ × List ℕ × List ℕ}
+    (λ κs x e. (x, now (e .1 .0), now (e .1 .1 .0), now (e .1 .1 .1 .1 .0)))
 step-byte-tied =
-    tied step-byte.ps step-byte.r step-byte-reads.Post {A = Step × List ℕ × List ℕ} (λ κs x e. (x, now (e .1 .0), now (e .1 .1 .1 .0))) _
-    (λ κs a x e p. ap (λ w. (w .step, w .store, w .room)) p)
+    tied step-byte.ps step-byte.r step-byte-reads.Post {A = Step × List ℕ × List ℕ × List ℕ}
+    (λ κs x e. (x, now (e .1 .0), now (e .1 .1 .0), now (e .1 .1 .1 .1 .0))) _
+    (λ κs a x e p. ap (λ w. (w .lent .step, w .lent .store, w .table, w .lent .room)) p)
 
 pub step-tick-tied : Tied step-tick.ps step-tick.r step-tick-reads.Post {A = Step × List ℕ × List ℕ} (λ κs x e. (x, now (e .1 .0), now (e .1 .1 .1 .0)))
 step-tick-tied =

@@ -1,7 +1,6 @@
-// The functions of the validator session: its line, its bills, and the calls that join the two with the frames. What each must do, and what is
+// The functions of the validator session: its bills, and the calls that join them with its line and the frames. What each must do, and what is
 // promised of that, stands in `validator_rules`. Document 01, "The validator session".
 mod bills;
-mod line;
 mod session;
 
 pub use bills::booked;

@@ -4,14 +4,10 @@ ghost use mathlib.Core.List.{_∷_};
 ghost use Prim.Native.Nat.{_≤_};
 ghost use lib.ListN.{length, set, take};
 ghost use Rattle.ccnet_frame.specs.Frame.{frame};
+ghost use Rattle.bill_table.specs.Table.{readTable};
 ghost use Rattle.validator_rules.specs.Bills.{stackedType, isPollAnswer, credited, remembered};
-ghost use Rattle.validator_rules.specs.Session.{isCommand, ack, nak, sent, sending, zeros, found, stepped, refusedStep, stepAfter, lentAfter, after, damagedStep, answeredStep, classStep, judgeStep, acted, byteStep, tickStep, requestStep, sessionRequest, sessionByte, sessionTick};
+ghost use Rattle.validator_rules.specs.Session.{isCommand, ack, nak, sent, sending, zeros, found, stepped, refusedStep, stepAfter, lentAfter, heardAfter, after, tableClass, classTo, saysTable, inner, tableSaid, damagedStep, answeredStep, classStep, judgeStep, acted, byteStep, tickStep, requestStep, sessionRequest, sessionByte, sessionTick};
 use crate::bills::booked;
-use crate::line::heard;
-use crate::line::is_open;
-use crate::line::opened;
-use crate::line::passed;
-use crate::line::remembers;
 use ccnet_frame::Class;
 use ccnet_frame::body;
 use ccnet_frame::classify;
@@ -20,6 +16,11 @@ use ccnet_frame::write_command;
 use ccnet_frame::write_nak;
 use refusals::Declined;
 use refusals::Put;
+use validator_line::heard;
+use validator_line::is_open;
+use validator_line::opened;
+use validator_line::passed;
+use validator_line::remembers;
 use validator_rules::Closing;
 use validator_rules::Found;
 use validator_rules::Heard;
@@ -45,6 +46,9 @@ const RETURN: u8 = 0x36;
 
 const HOLD: u8 = 0x38;
 
+// GET BILL TABLE: document 02, Q-1.
+const TABLE: u8 = 0x41;
+
 // The validator's address.
 const VALIDATOR: u8 = 0x03;
 
@@ -68,6 +72,9 @@ fn is_command(code: u8, size: usize) -> bool
         return size == 0;
     }
     if code == HOLD {
+        return size == 0;
+    }
+    if code == TABLE {
         return size == 0;
     }
     false
@@ -179,6 +186,7 @@ fn stacked(class: Class) -> usize
         Class::Stacked(y) => y as usize,
         Class::Returned(_) => Session::TYPES,
         Class::Unknown => Session::TYPES,
+        Class::Table => Session::TYPES,
     }
 }
 
@@ -198,6 +206,7 @@ fn is_poll_answer(class: Class) -> bool
         Class::Stacked(_) => true,
         Class::Returned(_) => true,
         Class::Unknown => false,
+        Class::Table => false,
     }
 }
 
@@ -261,35 +270,119 @@ fn said(line: Line, class: Class, store: &mut [u8; 255], room: &mut [u8]) -> Ste
     }
 }
 
+// What a body says in answer to GET BILL TABLE: but for the three that close without a reply, any body of at most 120 bytes is the table.
+fn table_class(class: Class, body: &[u8]) -> Class
+    ensures { λ r. ⌜ r ≡ tableClass class (now (body .entry)) ⌝ }
+{
+    match class {
+        Class::Ack => Class::Ack,
+        Class::Nak => Class::Nak,
+        Class::Illegal => Class::Illegal,
+        _ => {
+            if body.len() <= bill_table::SIZE {
+                return Class::Table;
+            }
+            Class::Unknown
+        }
+    }
+}
+
+// What a body says in answer to a command with that code.
+fn class_to(code: u64, body: &[u8]) -> Class
+    ensures { λ r. ⌜ r ≡ classTo code (now (body .entry)) ⌝ }
+{
+    let class = classify(body);
+    if code == TABLE as u64 {
+        return table_class(class, body);
+    }
+    class
+}
+
 // What a frame is found to be. A good body is never empty, and that of a refused frame always is.
-fn read(frame: &[u8]) -> Found
-    ensures { λ r. ⌜ r ≡ found (now (frame .entry)) ⌝ }
+fn read(code: u64, frame: &[u8]) -> Found
+    ensures { λ r. ⌜ r ≡ found code (now (frame .entry)) ⌝ }
 {
     let part = body(frame);
     if part.len() == 0 {
         return Found::Bad;
     }
-    Found::Good(classify(part))
+    Found::Good(class_to(code, part))
 }
 
 // What the gathered frame is found to be; no more than the store holds.
-fn gathered(store: &[u8], size: usize) -> Found
-    ensures { λ r. ⌜ r ≡ found (take size (now (store .entry))) ⌝ }
+fn gathered(code: u64, store: &[u8], size: usize) -> Found
+    ensures { λ r. ⌜ r ≡ found code (take size (now (store .entry))) ⌝ }
 {
     if size <= store.len() {
-        return read(&store[..size]);
+        return read(code, &store[..size]);
     }
-    read(store)
+    read(code, store)
+}
+
+// Is it the bill table?
+fn says_table(class: Class) -> bool
+    ensures { λ r. ⌜ r ≡ saysTable class ⌝ }
+{
+    match class {
+        Class::Ack => false,
+        Class::Nak => false,
+        Class::Illegal => false,
+        Class::State(_) => false,
+        Class::Busy(_) => false,
+        Class::Rejecting(_) => false,
+        Class::Failing(_) => false,
+        Class::Escrow(_) => false,
+        Class::Stacked(_) => false,
+        Class::Returned(_) => false,
+        Class::Unknown => false,
+        Class::Table => true,
+    }
+}
+
+// Keeps a frame's body as the bill table.
+fn keep_body(frame: &[u8], table: &mut [u8; 120])
+    ensures { λ r. ⌜ now (table .exit) ≡ readTable (inner (now (frame .entry))) (now (table .entry)) .table ⌝ }
+{
+    let n = frame.len();
+    if n < 5 {
+        bill_table::read(&frame[0..0], table);
+        return;
+    }
+    let end = n - 2;
+    bill_table::read(&frame[3..end], table);
+}
+
+// Keeps the bill table, where the frame says one, while its bytes still stand in the store.
+fn keep_table(class: Class, store: &[u8], size: usize, table: &mut [u8; 120])
+    ensures { λ r. ⌜ now (table .exit) ≡ tableSaid class (take size (now (store .entry))) (now (table .entry)) ⌝ }
+{
+    if !says_table(class) {
+        return;
+    }
+    if size <= store.len() {
+        keep_body(&store[..size], table);
+        return;
+    }
+    keep_body(store, table);
 }
 
 // Judges the frame, which is full.
-fn judge(line: Line, size: usize, store: &mut [u8; 255], room: &mut [u8]) -> Step
+fn judge(
+    line: Line,
+    size: usize,
+    store: &mut [u8; 255],
+    table: &mut [u8; 120],
+    room: &mut [u8],
+) -> Step
     requires { ⌜ 255 ≤ length (now room) ⌝ }
-    ensures { λ r. ⌜ lentAfter r (now (store .exit)) (now (room .exit)) ≡ judgeStep line size (now (store .entry)) (now (room .entry)) ⌝ }
+    ensures { λ r. ⌜ heardAfter (lentAfter r (now (store .exit)) (now (room .exit))) (now (table .exit)) ≡ judgeStep line size (now (store .entry)) (now (table .entry)) (now (room .entry)) ⌝ }
 {
-    match gathered(store, size) {
+    match gathered(line.code, store, size) {
         Found::Bad => damaged(line, store, room),
-        Found::Good(class) => said(line, class, store, room),
+        Found::Good(class) => {
+            keep_table(class, store, size, table);
+            said(line, class, store, room)
+        }
     }
 }
 
@@ -305,9 +398,15 @@ fn act(line: Line, todo: Todo, store: &mut [u8; 255], room: &mut [u8]) -> Step
     }
 }
 
-// A byte arrives.
-pub fn step_byte(line: Line, store: &mut [u8; 255], b: u8, room: &mut [u8]) -> Step
-    ensures { λ r. ⌜ lentAfter r (now (store .exit)) (now (room .exit)) ≡ byteStep line (now (store .entry)) b (now (room .entry)) ⌝ }
+// A byte arrives. Where it ends an answer with a bill table, which the closing says, the table that is lent holds it afterwards.
+pub fn step_byte(
+    line: Line,
+    store: &mut [u8; 255],
+    table: &mut [u8; 120],
+    b: u8,
+    room: &mut [u8],
+) -> Step
+    ensures { λ r. ⌜ heardAfter (lentAfter r (now (store .exit)) (now (room .exit))) (now (table .exit)) ≡ byteStep line (now (store .entry)) (now (table .entry)) b (now (room .entry)) ⌝ }
 {
     if room.len() < Session::ROOM {
         return not_done(line, Declined::Room);
@@ -325,7 +424,7 @@ pub fn step_byte(line: Line, store: &mut [u8; 255], b: u8, room: &mut [u8]) -> S
         }
         Heard::Judge => {
             keep(store, at, b);
-            judge(next, length, store, room)
+            judge(next, length, store, table, room)
         }
         Heard::Wrong => damaged(next, store, room),
     }
@@ -374,13 +473,14 @@ pub fn step_request(line: Line, code: u8, given: &[u8], room: &mut [u8]) -> Step
     done(next, n, Closing::Nothing)
 }
 
-// A request: a code, and its data (none but for ENABLE BILL TYPES).
+// A request: a code, and its data (none but for ENABLE BILL TYPES). GET BILL TABLE asks for the table that the session then holds.
 pub fn request(session: Session, code: u8, given: &[u8], room: &mut [u8]) -> Outcome
     ensures { λ r. ⌜ after r (now (room .exit)) ≡ sessionRequest session code (now (given .entry)) (now (room .entry)) ⌝ }
 {
     let line = session.line;
     let bills = session.bills;
     let store = session.store;
+    let table = session.table;
     let step = step_request(line, code, given, room);
     let next = step.line;
     let reply = step.reply;
@@ -389,6 +489,7 @@ pub fn request(session: Session, code: u8, given: &[u8], room: &mut [u8]) -> Out
             line: next,
             bills,
             store,
+            table,
         },
         reply,
     }
@@ -401,7 +502,8 @@ pub fn byte(session: Session, b: u8, room: &mut [u8]) -> Outcome
     let line = session.line;
     let bills = session.bills;
     let mut store = session.store;
-    let step = step_byte(line, &mut store, b, room);
+    let mut table = session.table;
+    let step = step_byte(line, &mut store, &mut table, b, room);
     let next = step.line;
     let bill = step.bill;
     let reply = step.reply;
@@ -411,6 +513,7 @@ pub fn byte(session: Session, b: u8, room: &mut [u8]) -> Outcome
             line: next,
             bills: counts,
             store,
+            table,
         },
         reply,
     }
@@ -423,6 +526,7 @@ pub fn tick(session: Session, ms: u32, room: &mut [u8]) -> Outcome
     let line = session.line;
     let bills = session.bills;
     let mut store = session.store;
+    let table = session.table;
     let step = step_tick(line, &mut store, ms, room);
     let next = step.line;
     let bill = step.bill;
@@ -433,6 +537,7 @@ pub fn tick(session: Session, ms: u32, room: &mut [u8]) -> Outcome
             line: next,
             bills: counts,
             store,
+            table,
         },
         reply,
     }

@@ -15,13 +15,12 @@ use Rattle.refusals.specs.Put.{over}
 use Rattle.refusals.proofs.Rules.{holds-true, fails-false, by-cases, cond-true, cond-false, pick, either-way, Alike}
 use Rattle.refusals.proofs.Writing.{take-over}
 use Rattle.ccnet_frame.specs.Frame.{frame, judgeFrame, bodyOf}
-use Rattle.ccnet_frame.specs.Class.{classOf, classBytes, isNamed}
+use Rattle.ccnet_frame.specs.Class.{classOf, classBytes}
 use Rattle.ccnet_frame.specs.declared.frame.Judged.{Judged}
 use Rattle.ccnet_frame.specs.declared.frame.Judged.the-variants.{Good as Passed, Refused as Failed}
 use Rattle.ccnet_frame.specs.declared.class.Class.{Class}
-use Rattle.ccnet_frame.specs.declared.class.Class.the-variants.{Ack, Nak, Illegal, State, Busy, Rejecting, Failing, Escrow, Stacked, Returned, Unknown}
+use Rattle.ccnet_frame.specs.declared.class.Class.the-variants.{Ack, Nak, Illegal, State, Busy, Rejecting, Failing, Escrow, Stacked, Returned, Unknown, Table}
 use Rattle.ccnet_frame.proofs.Frames.{frame-length, frame-judged, good-long, good-most, good-size, good-frame}
-use Rattle.ccnet_frame.proofs.Classes.{classes}
 use Rattle.ledger.specs.Events.{Deed, asks, hears, waits, goes-on, closes, declined, done, isFrame, since}
 use Rattle.ledger.specs.Line.{isOpen, quietTime, ofNewest, accepted}
 use Rattle.ledger.specs.Waiting.{some, waited}
@@ -30,19 +29,21 @@ use Rattle.ledger.proofs.Declining.{given-alike}
 use Rattle.validator_rules.specs.Limits.{quiet, startWait, frameWait, storeSize, commandLimit, types}
 use Rattle.validator_rules.specs.Line.{hearing, isOpen as openIn, opened, closed, remembers, inside, waits as still, startByte, addressByte, lengthByte, furtherByte, answerByte, heardIn, heard, expiredIn, expired, passed}
 use Rattle.validator_rules.specs.Bills.{bills, bookedBy, poll, remembered}
-use Rattle.validator_rules.specs.Session.{ack, nak, LentAfter, StepAfter, stepAfter, refusedStep, lentAfter, afterStep, zeros, damagedStep, answeredStep, classStep, foundIn, found, judgedStep, judgeStep, acted, byteActed, byteRefusals, tickRefusals, requestRefusals, byteStep, tickStep, requestStep, freshSession, sessionRequest, sessionByte, sessionTick}
-use Rattle.validator_rules.specs.History.{lastCode, fromStart, between, answerTo, reported, counted, gathered as so-far, Carries, Other, Says, Unfinished, starts, GoesOnBy, Truly, KeptByHistory, historyRefusals, DeclinesByHistory}
+use Rattle.validator_rules.specs.Session.{ack, nak, LentAfter, StepAfter, stepAfter, refusedStep, lentAfter, HeardAfter, heardAfter, afterStep, afterByte, zeros, damagedStep, answeredStep, classStep, classTo, foundIn, found, judgedStep, judgeStep, acted, byteActed, byteRefusals, tickRefusals, requestRefusals, byteStep, tickStep, requestStep, freshSession, sessionRequest, sessionByte, sessionTick}
+use Rattle.validator_rules.specs.History.{lastCode, fromStart, between, answerTo, reported, counted, tableBy, gathered as so-far, Carries, Other, Means, Says, Unfinished, starts, GoesOnBy, Truly, KeptByHistory, historyRefusals, DeclinesByHistory}
 use Rattle.validator_rules.specs.Calls.{Call, request, byte, tick, Request, Own, Ending, acknowledged, not-acknowledged, illegal-command, answered, damaged, silent, Known, Past, ending, returned, host, history}
 use Rattle.validator_rules.specs.declared.bills.Bills.{Bills}
 use Rattle.validator_rules.specs.declared.line.Phase.{Phase}
 use Rattle.validator_rules.specs.declared.line.Phase.the-variants.{Idle, Start, Inside}
 use Rattle.validator_rules.specs.declared.line.Line.{Line}
 use Rattle.validator_rules.specs.declared.line.Todo.the-variants.{Nothing, CloseSilent}
-use Rattle.validator_rules.specs.declared.line.Heard.the-variants.{Skip, Keep}
+use Rattle.validator_rules.specs.declared.line.Heard.the-variants.{Skip, Keep, Judge}
 use Rattle.validator_rules.specs.declared.line.Turn.{Turn}
 use Rattle.validator_rules.specs.declared.line.Hearing.{Hearing}
 use Rattle.validator_rules.specs.declared.session.Session.{Session}
 use Rattle.validator_rules.proofs.Past.{second, third, start-next, start-more, store-more, bytes-more, nothing-counted, counted-most}
+use Rattle.validator_rules.proofs.Telling.{replied, to-another, reply-to, plain-to, says-means, is-other, class-bytes}
+use Rattle.validator_rules.proofs.Tabling.{no-table, asked-table, waited-table, heard-held, judged-full}
 use Rattle.validator_rules.proofs.Exact.{exactly-when}
 use Rattle.validator_rules.proofs.Booking.{Base, Fewer, answered-base, same-base}
 
@@ -90,6 +91,10 @@ record Agrees (s : Session) (h : Past) : Type 0 where
   stands : Stands (s .line .phase) (s .line) (s .store) h
   truly : Truly h
 
+-- the bill table is told apart, in proofs/Tabling.antt: whatever it is, the rest agrees
+any-table : (s : Session) (t : List ℕ) (h : Past) → Agrees s h → Agrees (record { line = s .line; bills = s .bills; store = s .store; table = t }) h
+any-table s t h k = record { base = k .base; stands = k .stands; truly = k .truly }
+
 -- ---- a call that goes on, and one that closes
 
 -- a call that completed nothing leaves the bounds
@@ -126,8 +131,8 @@ module _ (l : Line) (bs : List Bills) (h : Past) (base : Base l bs h) (fewer : F
         bound = λ y small. omega (arith, counted-most y e h, fewer y small, ends .as-many);
       }
 
-  closes-agrees : answerTo poll e h ≡ [] → Truly (e ∷ h) → Agrees (record { line = closed l; bills = bs; store = zeros }) (e ∷ h)
-  closes-agrees none truly =
+  closes-agrees : (t : List ℕ) → answerTo poll e h ≡ [] → Truly (e ∷ h) → Agrees (record { line = closed l; bills = bs; store = zeros; table = t }) (e ∷ h)
+  closes-agrees t none truly =
       record {
         base = same-base l (closed l) bs h base refl refl refl e none (ends .as-many) (ends .as-coded);
         stands = rests (closed l) refl;
@@ -136,48 +141,32 @@ module _ (l : Line) (bs : List Bills) (h : Past) (base : Base l bs h) (fewer : F
 
 -- ---- bytes that are no good frame from address 03h, and will be none
 
-module _ (f : List ℕ) where
-  wrong-address : 2 ≤ length f → (getD f 1 0 ≡ 0x03 → ⊥) → Says damaged f
+module _ (code : ℕ) (f : List ℕ) where
+  wrong-address : 2 ≤ length f → (getD f 1 0 ≡ 0x03 → ⊥) → Says code damaged f
   wrong-address long n = (λ u. n (u .0 long), λ body is. n (ap (λ (x : List ℕ). getD x 1 0) (is .0) ∙ second 0x03 body))
 
-  wrong-length : 3 ≤ length f → getD f 2 0 < 6 → Says damaged f
+  wrong-length : 3 ≤ length f → getD f 2 0 < 6 → Says code damaged f
   wrong-length long short = (
     λ u. omega (arith, u .1 long .0),
     λ body is. omega (arith, ap (λ (x : List ℕ). getD x 2 0) (is .0), third 0x03 body, is .1 .0),
   )
 
   -- a whole one that is bad
-  wrong-frame : 3 ≤ length f → getD f 2 0 ≡ length f → (judgeFrame f ≡ Passed 0x03 → ⊥) → Says damaged f
+  wrong-frame : 3 ≤ length f → getD f 2 0 ≡ length f → (judgeFrame f ≡ Passed 0x03 → ⊥) → Says code damaged f
   wrong-frame long sized bad = (
     λ u. omega (arith, sized, u .1 long .1),
     λ body is. bad (ap judgeFrame (is .0) ∙ frame-judged 0x03 body (lit≤ tt, lit≤ tt) (is .1 .0)),
   )
 
--- ---- bodies that get a reply
-
-abbrev replied : Class → Bool
-replied Ack = false
-replied Nak = false
-replied Illegal = false
-replied (State b) = true
-replied (Busy b) = true
-replied (Rejecting b) = true
-replied (Failing b) = true
-replied (Escrow y) = true
-replied (Stacked y) = true
-replied (Returned y) = true
-replied Unknown = true
-
--- they are not the bytes of a class that gets none
-replied-no : (body : List ℕ) → replied (classOf body) ≡ true → (c : Class) → isNamed c .holds → replied c ≡ false → body ≡ classBytes c → ⊥
-replied-no body gets c listed none is =
-    true≢false (sym gets ∙ ap (λ (x : List ℕ). replied (classOf x)) is ∙ ap replied (classes .back c listed) ∙ none)
+-- a command is not both a POLL and a GET BILL TABLE
+not-both : (code : ℕ) → eqb code poll ≡ true → code ≡ 0x41 → ⊥
+not-both code t e = omega (arith, same code poll .tells .shown t, e)
 
 -- ---- what is left by a step
 
 -- the session agrees after a step that answers a byte or a tick
 abbrev Next : Session → Past → Deed Request Own → LentAfter → Type 0
-Next s h d w = Agrees (afterStep s w .session) (told ending d (returned (w .step .reply)) (w .room) ∷ h)
+Next s h d w = Agrees (afterStep s w (s .table) .session) (told ending d (returned (w .step .reply)) (w .room) ∷ h)
 
 module _ (s : Session) (h : Past) (k : Agrees s h) where
   abbrev l : Line
@@ -186,85 +175,94 @@ module _ (s : Session) (h : Past) (k : Agrees s h) where
   -- ---- closings
 
   module _ (fewer : Fewer h) (live : isOpen h ≡ true) (r : List ℕ) where
-    heard-damaged : (b : ℕ) → Says damaged (fromStart (since h ++ (b ∷ []))) → Next s h (hears b) (damagedStep (closed l) r)
+    heard-damaged : (b : ℕ) → Says (lastCode h) damaged (fromStart (since h ++ (b ∷ []))) → Next s h (hears b) (damagedStep (closed l) r)
     unfolding damagedStep bookedBy Truly
-    heard-damaged b says = closes-agrees l (s .bills) h (k .base) fewer _ (heard-ends h b _ damaged) refl ((live, says), (take-over nak r, k .truly))
+    heard-damaged b says = closes-agrees l (s .bills) h (k .base) fewer _ (heard-ends h b _ damaged) (s .table) refl ((live, says), (take-over nak r, k .truly))
 
     waited-damaged : (ms : ℕ) → (fromStart (since h) ≡ [] → ⊥) → frameWait ≤ waited starts h + ms → Next s h (waits ms) (damagedStep (closed l) r)
     unfolding damagedStep bookedBy Truly
-    waited-damaged ms some late = closes-agrees l (s .bills) h (k .base) fewer _ (waited-ends h ms _ damaged) refl ((live, (some, late)), (take-over nak r, k .truly))
+    waited-damaged ms some late = closes-agrees l (s .bills) h (k .base) fewer _ (waited-ends h ms _ damaged) (s .table) refl ((live, (some, late)), (take-over nak r, k .truly))
 
     waited-silent : (ms : ℕ) → fromStart (since h) ≡ [] → startWait ≤ waited starts h + ms → Next s h (waits ms) (acted CloseSilent (closed l) (s .store) r)
     unfolding bookedBy Truly
-    waited-silent ms none late = closes-agrees l (s .bills) h (k .base) fewer _ (waited-ends h ms _ silent) refl ((live, (none, late)), (refl, k .truly))
+    waited-silent ms none late = closes-agrees l (s .bills) h (k .base) fewer _ (waited-ends h ms _ silent) (s .table) refl ((live, (none, late)), (refl, k .truly))
 
     -- an answer that ends with b: a frame, and its body is what stands between
     module _ (b : ℕ) (body : List ℕ) (is : body ≡ between (fromStart (since h ++ (b ∷ []))))
         (good : Carries (fromStart (since h ++ (b ∷ []))) body) where
-      heard-answered : replied (classOf body) ≡ true → Next s h (hears b) (answeredStep (closed l) (classOf body) r)
+      abbrev class : Class
+      class = classTo (l .code) body
+
+      heard-answered : replied (classOf body) ≡ true → Next s h (hears b) (answeredStep (closed l) class r)
       unfolding answeredStep Truly
       heard-answered gets =
-          let e = told ending (hears b) (returned (answeredStep (closed l) (classOf body) r .step .reply)) (answeredStep (closed l) (classOf body) r .room) in
-          let ends = heard-ends h b _ (answered (classOf body)) in
-          let m = remembers (closed l) (remembered (l .code) (l .last) (classOf body)) in
+          let e = told ending (hears b) (returned (answeredStep (closed l) class r .step .reply)) (answeredStep (closed l) class r .room) in
+          let ends = heard-ends h b _ (answered class) in
+          let m = remembers (closed l) (remembered (l .code) (l .last) class) in
           record {
             base =
                 answered-base l (s .bills) h (k .base) fewer e body
                 (ap₂ (λ (c : ℕ) (x : List ℕ). cond (eqb c poll) x []) (sym (k .base .code-is)) (sym is))
+                class (λ t. to-another body (l .code) (λ q. not-both (l .code) t q))
                 m refl refl refl (ends .as-many) (ends .as-coded);
             stands = rests l (s .bills) h (k .base) fewer e ends m refl;
             truly = (
               (
                 live,
-                subst (λ (x : List ℕ). Carries (fromStart (since h ++ (b ∷ []))) x × (Other x × (classOf body ≡ classOf x))) is
-                    (good, ((replied-no body gets Ack tt refl, (replied-no body gets Nak tt refl, replied-no body gets Illegal tt refl)), refl)),
+                subst (λ (x : List ℕ). Carries (fromStart (since h ++ (b ∷ []))) x × (Other x × Means (lastCode h) x class)) is
+                    (good, (is-other body gets, subst (λ (n : ℕ). Means n body class) (k .base .code-is) (says-means body (l .code) gets))),
               ),
               (take-over ack r, k .truly),
             );
           }
 
       -- a body of a class other than unknown is the bytes of that class
-      heard-says : (c : Class) → c ≡ classOf body → (c ≡ Unknown → ⊥) → Carries (fromStart (since h ++ (b ∷ []))) (classBytes c)
-      heard-says c e n =
-          subst (Carries (fromStart (since h ++ (b ∷ [])))) (sym (classes .again body (λ u. n (e ∙ u)) .1) ∙ ap classBytes (sym e)) good
+      heard-says : (c : Class) → c ≡ class → replied c ≡ false → (c ≡ Unknown → ⊥) → Carries (fromStart (since h ++ (b ∷ []))) (classBytes c)
+      heard-says c e none n =
+          let of : c ≡ classOf body = e ∙ plain-to body (l .code) (sym (reply-to body (l .code)) ∙ ap replied (sym e) ∙ none) in
+          subst (Carries (fromStart (since h ++ (b ∷ [])))) (class-bytes body c of n) good
 
-      heard-class : (c : Class) → c ≡ classOf body → Next s h (hears b) (classStep c (closed l) r)
+      gets : {c : Class} → c ≡ class → replied c ≡ true → replied (classOf body) ≡ true
+      gets e t = sym (reply-to body (l .code)) ∙ ap replied (sym e) ∙ t
+
+      heard-class : (c : Class) → c ≡ class → Next s h (hears b) (classStep c (closed l) r)
       unfolding bookedBy Truly
       heard-class Ack e =
-          closes-agrees l (s .bills) h (k .base) fewer _ (heard-ends h b _ acknowledged) refl ((live, heard-says Ack e (λ u. let z : _≡_ {A = ℕ} 0 1 = cc in omega arith)), (refl, k .truly))
+          closes-agrees l (s .bills) h (k .base) fewer _ (heard-ends h b _ acknowledged) (s .table) refl ((live, heard-says Ack e refl (λ u. let z : _≡_ {A = ℕ} 0 1 = cc in omega arith)), (refl, k .truly))
       heard-class Nak e =
-          closes-agrees l (s .bills) h (k .base) fewer _ (heard-ends h b _ not-acknowledged) refl ((live, heard-says Nak e (λ u. let z : _≡_ {A = ℕ} 0 1 = cc in omega arith)), (refl, k .truly))
+          closes-agrees l (s .bills) h (k .base) fewer _ (heard-ends h b _ not-acknowledged) (s .table) refl ((live, heard-says Nak e refl (λ u. let z : _≡_ {A = ℕ} 0 1 = cc in omega arith)), (refl, k .truly))
       heard-class Illegal e =
-          closes-agrees l (s .bills) h (k .base) fewer _ (heard-ends h b _ illegal-command) refl ((live, heard-says Illegal e (λ u. let z : _≡_ {A = ℕ} 0 1 = cc in omega arith)), (refl, k .truly))
-      heard-class (State x) e = subst (λ (c : Class). Next s h (hears b) (answeredStep (closed l) c r)) (sym e) (heard-answered (ap replied (sym e)))
-      heard-class (Busy x) e = subst (λ (c : Class). Next s h (hears b) (answeredStep (closed l) c r)) (sym e) (heard-answered (ap replied (sym e)))
-      heard-class (Rejecting x) e = subst (λ (c : Class). Next s h (hears b) (answeredStep (closed l) c r)) (sym e) (heard-answered (ap replied (sym e)))
-      heard-class (Failing x) e = subst (λ (c : Class). Next s h (hears b) (answeredStep (closed l) c r)) (sym e) (heard-answered (ap replied (sym e)))
-      heard-class (Escrow x) e = subst (λ (c : Class). Next s h (hears b) (answeredStep (closed l) c r)) (sym e) (heard-answered (ap replied (sym e)))
-      heard-class (Stacked x) e = subst (λ (c : Class). Next s h (hears b) (answeredStep (closed l) c r)) (sym e) (heard-answered (ap replied (sym e)))
-      heard-class (Returned x) e = subst (λ (c : Class). Next s h (hears b) (answeredStep (closed l) c r)) (sym e) (heard-answered (ap replied (sym e)))
-      heard-class Unknown e = subst (λ (c : Class). Next s h (hears b) (answeredStep (closed l) c r)) (sym e) (heard-answered (ap replied (sym e)))
+          closes-agrees l (s .bills) h (k .base) fewer _ (heard-ends h b _ illegal-command) (s .table) refl ((live, heard-says Illegal e refl (λ u. let z : _≡_ {A = ℕ} 0 1 = cc in omega arith)), (refl, k .truly))
+      heard-class (State x) e = subst (λ (c : Class). Next s h (hears b) (answeredStep (closed l) c r)) (sym e) (heard-answered (gets e refl))
+      heard-class (Busy x) e = subst (λ (c : Class). Next s h (hears b) (answeredStep (closed l) c r)) (sym e) (heard-answered (gets e refl))
+      heard-class (Rejecting x) e = subst (λ (c : Class). Next s h (hears b) (answeredStep (closed l) c r)) (sym e) (heard-answered (gets e refl))
+      heard-class (Failing x) e = subst (λ (c : Class). Next s h (hears b) (answeredStep (closed l) c r)) (sym e) (heard-answered (gets e refl))
+      heard-class (Escrow x) e = subst (λ (c : Class). Next s h (hears b) (answeredStep (closed l) c r)) (sym e) (heard-answered (gets e refl))
+      heard-class (Stacked x) e = subst (λ (c : Class). Next s h (hears b) (answeredStep (closed l) c r)) (sym e) (heard-answered (gets e refl))
+      heard-class (Returned x) e = subst (λ (c : Class). Next s h (hears b) (answeredStep (closed l) c r)) (sym e) (heard-answered (gets e refl))
+      heard-class Table e = subst (λ (c : Class). Next s h (hears b) (answeredStep (closed l) c r)) (sym e) (heard-answered (gets e refl))
+      heard-class Unknown e = subst (λ (c : Class). Next s h (hears b) (answeredStep (closed l) c r)) (sym e) (heard-answered (gets e refl))
 
     -- a full frame, good or bad
     heard-full : (b : ℕ) (f : List ℕ) → f ≡ fromStart (since h ++ (b ∷ [])) → getD f 1 0 ≡ 0x03 → AllBytes f
-        → 3 ≤ length f → getD f 2 0 ≡ length f → Next s h (hears b) (judgedStep (found f) (closed l) r)
+        → 3 ≤ length f → getD f 2 0 ≡ length f → Next s h (hears b) (judgedStep (found (l .code) f) (closed l) r)
     unfolding found between
     heard-full b f is named bytes long sized = by (judgeFrame f) refl
       where
-        by : (j : Judged) → judgeFrame f ≡ j → Next s h (hears b) (judgedStep (foundIn j f) (closed l) r)
+        by : (j : Judged) → judgeFrame f ≡ j → Next s h (hears b) (judgedStep (foundIn j (l .code) f) (closed l) r)
         by (Passed a) e =
             let good = good-frame f a e bytes in
             let three : a ≡ 0x03 = sym (second a (bodyOf f)) ∙ ap (λ (x : List ℕ). getD x 1 0) good ∙ named in
             heard-class b (bodyOf f) (rw e (ap between is))
             (sym is ∙ sym good ∙ ap (λ (n : ℕ). frame n (bodyOf f)) three, within-limits)
-            (classOf (bodyOf f)) refl
+            (classTo (l .code) (bodyOf f)) refl
           where
             within-limits : within 1 250 (length (bodyOf f)) .holds
             within-limits = (omega (arith, good-size f a e, good-long f a e), omega (arith, good-size f a e, good-most f a e bytes))
         by (Failed fault) e =
             heard-damaged b
-            (subst (Says damaged) is
-            (wrong-frame f long sized (λ u. let v : Passed 0x03 ≡ Failed fault = sym u ∙ e in let z : _≡_ {A = ℕ} 0 1 = cc in omega arith)))
+            (subst (Says (lastCode h) damaged) is
+            (wrong-frame (lastCode h) f long sized (λ u. let v : Passed 0x03 ≡ Failed fault = sym u ∙ e in let z : _≡_ {A = ℕ} 0 1 = cc in omega arith)))
 
   -- ---- a byte that closes nothing
 
@@ -406,7 +404,7 @@ module _ (s : Session) (h : Past) (k : Agrees s h) where
     module _ (r : List ℕ) where
       -- what a turn of the line leads to
       abbrev After : Hearing → Type 0
-      After t = Next s h (hears b) (byteActed (t .heard) (t .line) (l .length) (s .store) (l .gathered) b r)
+      After t = Next s h (hears b) (byteActed (t .heard) (t .line) (l .length) (s .store) (s .table) (l .gathered) b r .lent)
 
       after-idle : (left : ℕ) → left ≡ quiet → l .phase ≡ Idle → Resting l (s .store) h → After (hearing (still l left) Skip)
       unfolding bookedBy
@@ -434,7 +432,7 @@ module _ (s : Session) (h : Past) (k : Agrees s h) where
 
       module _ (st : Gathering l (s .store) h) where
         kept : (left n want : ℕ) → left ≡ l .left → n ≡ l .gathered + 1 → n < want → want ≤ storeSize → (n ≤ 2 → want ≡ storeSize) → (n ≡ 2 → b ≡ 0x03)
-            → (3 ≤ n → getD (before st ++ (b ∷ [])) 2 0 ≡ want) → 6 ≤ want → Next s h (hears b) (byteActed Keep (inside l left n want) (l .length) (s .store) (l .gathered) b r)
+            → (3 ≤ n → getD (before st ++ (b ∷ [])) 2 0 ≡ want) → 6 ≤ want → Next s h (hears b) (byteActed Keep (inside l left n want) (l .length) (s .store) (s .table) (l .gathered) b r .lent)
         unfolding bookedBy
         kept left n want rest e less most untold address sized six =
             record {
@@ -455,8 +453,8 @@ module _ (s : Session) (h : Past) (k : Agrees s h) where
             (λ e. kept _ _ _ (omega arith) (omega arith) (omega (arith, st .untold (omega arith))) (st .most) (λ u. st .untold (omega arith)) (λ u. omega (arith, e)) (λ u. absurd (omega arith)) (st .six))
             (λ n.
             heard-damaged (st .bound) (st .live) r b
-            (subst (Says damaged) (sym (came-from st))
-            (wrong-address (before st ++ (b ∷ [])) (omega (arith, came-size st)) (λ f. let is = sym (getD-at (before st) b [] 0 1 (st .size ∙ g)) ∙ f in n (omega (arith, is))))))
+            (subst (Says (lastCode h) damaged) (sym (came-from st))
+            (wrong-address (lastCode h) (before st ++ (b ∷ [])) (omega (arith, came-size st)) (λ f. let is = sym (getD-at (before st) b [] 0 1 (st .size ∙ g)) ∙ f in n (omega (arith, is))))))
 
         after-length : l .gathered ≡ 2 → After (lengthByte l b)
         unfolding lengthByte
@@ -464,8 +462,8 @@ module _ (s : Session) (h : Past) (k : Agrees s h) where
             pick After (under b 6) _ _
             (λ e.
             heard-damaged (st .bound) (st .live) r b
-            (subst (Says damaged) (sym (came-from st))
-            (wrong-length (before st ++ (b ∷ [])) (omega (arith, came-size st)) (omega (arith, e, sizing)))))
+            (subst (Says (lastCode h) damaged) (sym (came-from st))
+            (wrong-length (lastCode h) (before st ++ (b ∷ [])) (omega (arith, came-size st)) (omega (arith, e, sizing)))))
             (λ n. kept _ _ _ (omega arith) (omega arith) (omega (arith, least n)) (omega arith) (λ u. absurd (omega arith)) (λ u. absurd (omega arith)) (λ u. omega (arith, sizing)) (omega (arith, least n)))
           where
             sizing : getD (before st ++ (b ∷ [])) 2 0 ≡ b
@@ -629,7 +627,7 @@ module _ (s : Session) (h : Past) (k : Agrees s h) where
     resting Inside n st = absurd (n refl)
 
     wrote-agrees : Resting l (s .store) h → l .accepted < commandLimit
-        → Agrees (record { line = opened l code (l .accepted + 1); bills = s .bills; store = s .store }) (wrote ∷ h)
+        → Agrees (record { line = opened l code (l .accepted + 1); bills = s .bills; store = s .store; table = s .table }) (wrote ∷ h)
     unfolding isOpen accepted ofNewest reported counted fromStart Truly waited
     wrote-agrees st f =
         record {
@@ -703,7 +701,7 @@ module _ (s : Session) (h : Past) (k : Agrees s h) where
   request-agrees code given r =
       either-way
       (λ (w : StepAfter).
-      Agrees (record { line = w .step .line; bills = s .bills; store = s .store })
+      Agrees (record { line = w .step .line; bills = s .bills; store = s .store; table = s .table })
       (told ending (asks (record { code = code; given = given })) (returned (w .step .reply)) (w .room) ∷ h))
       (requestRefusals (s .line) code given r) (λ why. stepAfter (refusedStep (s .line) why) r) _
       (λ why. declined-agrees)
@@ -713,9 +711,11 @@ module _ (s : Session) (h : Past) (k : Agrees s h) where
   byte-agrees : (b : ℕ) (small : b < 256) (r : List ℕ) → Agrees (sessionByte s b r .session) (seen host s (byte b small r) ∷ h)
   unfolding sessionByte byteStep bookedBy
   byte-agrees b small r =
-      either-way (Next s h (hears b)) (byteRefusals r) (λ why. lentAfter (refusedStep (s .line) why) (s .store) r) _
+      either-way
+      (λ (w : HeardAfter). Agrees (afterByte s w .session) (told ending (hears b) (returned (w .lent .step .reply)) (w .lent .room) ∷ h))
+      (byteRefusals r) (λ why. heardAfter (lentAfter (refusedStep (s .line) why) (s .store) r) (s .table)) _
       (λ why. declined-agrees)
-      (λ n. after-heard s h k b small r)
+      (λ n. any-table _ _ _ (after-heard s h k b small r))
 
   tick-agrees : (ms : ℕ) (r : List ℕ) → Agrees (sessionTick s ms r .session) (seen host s (tick ms r) ∷ h)
   unfolding sessionTick tickStep bookedBy
@@ -755,6 +755,49 @@ run-agrees s h (c ∷ cs) k = run-agrees (host .called s c .session) (seen host 
 always-agrees : (cs : List Call) → Agrees (run host freshSession cs) (history cs)
 always-agrees cs = run-agrees freshSession [] cs fresh-agrees
 
+-- ---- the bill table
+
+-- the frame that is judged is what came since 02h
+judged-whole : (s : Session) (h : Past) → Agrees s h → (b : ℕ) → b < 256 → heard (s .line) b .heard ≡ Judge
+    → take (s .line .length) (set (s .store) (s .line .gathered) b) ≡ fromStart (since h ++ (b ∷ []))
+judged-whole s h k b small e =
+    let full = judged-full (s .line) b e in
+    by (s .line .phase) (full .0) (k .stands) (full .1)
+  where
+    by : (p : Phase) → p ≡ Inside → Stands p (s .line) (s .store) h → (s .line .gathered + 1 < s .line .length → ⊥)
+        → take (s .line .length) (set (s .store) (s .line .gathered) b) ≡ fromStart (since h ++ (b ∷ []))
+    by Idle q st n = absurd (let z : _≡_ {A = ℕ} 0 1 = cc in omega arith)
+    by Start q st n = absurd (let z : _≡_ {A = ℕ} 0 1 = cc in omega arith)
+    by Inside q st n = came-full s h k b small st (omega (arith, n, st .less))
+
+byte-tabled : (s : Session) (h : Past) → Agrees s h → s .table ≡ tableBy h → (b : ℕ) (small : b < 256) (r : List ℕ)
+    → sessionByte s b r .session .table ≡ tableBy (seen host s (byte b small r) ∷ h)
+unfolding sessionByte byteStep
+byte-tabled s h k held b small r =
+    either-way
+    (λ (w : HeardAfter). Truly (told ending (hears b) (returned (w .lent .step .reply)) (w .lent .room) ∷ h)
+    → w .table ≡ tableBy (told ending (hears b) (returned (w .lent .step .reply)) (w .lent .room) ∷ h))
+    (byteRefusals r) (λ why. heardAfter (lentAfter (refusedStep (s .line) why) (s .store) r) (s .table)) _
+    (λ why t. held ∙ sym (no-table _ h refl))
+    (λ none t. heard-held (heard (s .line) b .line) h b (s .table) held r (heard (s .line) b .heard) (s .line .length) (s .store) (s .line .gathered) (judged-whole s h k b small) t)
+    (byte-agrees s h k b small r .truly)
+
+called-tabled : (s : Session) (h : Past) (c : Call) → Agrees s h → s .table ≡ tableBy h → host .called s c .session .table ≡ tableBy (seen host s c ∷ h)
+unfolding sessionRequest sessionTick
+called-tabled s h (request code given r) k held = held ∙ sym (asked-table (record { code = code; given = given }) (returned (sessionRequest s code given r .reply)) (sessionRequest s code given r .room) h)
+called-tabled s h (byte b small r) k held = byte-tabled s h k held b small r
+called-tabled s h (tick ms r) k held = held ∙ sym (waited-table ms (returned (sessionTick s ms r .reply)) (sessionTick s ms r .room) h)
+
+run-tabled : (s : Session) (h : Past) (cs : List Call) → Agrees s h → s .table ≡ tableBy h → run host s cs .table ≡ tableBy (historyFrom host s h cs)
+unfolding run historyFrom
+run-tabled s h [] k held = held
+run-tabled s h (c ∷ cs) k held =
+    run-tabled (host .called s c .session) (seen host s c ∷ h) cs (called-agrees s h c k) (called-tabled s h c k held)
+
+fresh-tabled : freshSession .table ≡ tableBy []
+unfolding freshSession tableBy
+fresh-tabled = refl
+
 -- ---- what is promised
 
 -- no more bills of a type than commands accepted
@@ -783,6 +826,7 @@ kept-by-history =
             k .base .accepted-is,
             k .base .few,
           );
+      table = λ cs. run-tabled freshSession [] cs fresh-agrees fresh-tabled;
       store = λ cs.
           let s = run host freshSession cs in
           store-is (s .line) (s .store) (history cs) (s .line .phase) (always-agrees cs .stands);
@@ -840,3 +884,23 @@ pub declines-by-history : DeclinesByHistory
 declines-by-history cs code given r =
     let s = run host freshSession cs in
     given-alike (exactly-when .request s code given r) (refusals-alike s (history cs) (always-agrees cs) code given r) refl
+
+-- ---- where the line stands, for whoever tells it
+
+-- what is left of the wait that goes on, and what has come of an answer
+abbrev pub Placed : Phase → Line → Past → Type 0
+Placed Idle l h = (isOpen h ≡ false) × (l .left ≡ quiet - quietTime h)
+Placed Start l h = (isOpen h ≡ true) × (fromStart (since h) ≡ []) × (l .left ≡ startWait - waited starts h)
+Placed Inside l h =
+    (isOpen h ≡ true) × (length (fromStart (since h)) ≡ l .gathered) × (1 ≤ l .gathered)
+    × (3 ≤ l .gathered → getD (fromStart (since h)) 2 0 ≡ l .length) × (l .left ≡ frameWait - waited starts h)
+
+placed : (l : Line) (store : List ℕ) (h : Past) (p : Phase) → Stands p l store h → Placed p l h
+placed l store h Idle st = (st .shut, st .missing)
+placed l store h Start st = (st .live, st .none, st .time)
+placed l store h Inside st = (st .live, st .size, st .least, st .sized, st .time)
+
+pub always-placed : (cs : List Call) → Placed (run host freshSession cs .line .phase) (run host freshSession cs .line) (history cs)
+always-placed cs =
+    let s = run host freshSession cs in
+    placed (s .line) (s .store) (history cs) (s .line .phase) (always-agrees cs .stands)

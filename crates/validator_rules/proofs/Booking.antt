@@ -74,10 +74,8 @@ abbrev pub Fewer : Past → Type 0
 Fewer h = (y : ℕ) → y < types → counted y h < accepted h
 
 module _ (l : Line) (bs : List Bills) (h : Past) (base : Base l bs h) (fewer : Fewer h)
-    (e : Known) (body : List ℕ) (is : answerTo poll e h ≡ cond (eqb (l .code) poll) body []) where
-  abbrev class : Class
-  class = classOf body
-
+    (e : Known) (body : List ℕ) (is : answerTo poll e h ≡ cond (eqb (l .code) poll) body [])
+    (class : Class) (of-poll : eqb (l .code) poll ≡ true → class ≡ classOf body) where
   -- what is remembered
   memory-after : remembered (l .code) (l .last) class ≡ stackedType (classOf (reported (e ∷ h)))
   unfolding remembered reported
@@ -88,12 +86,13 @@ module _ (l : Line) (bs : List Bills) (h : Past) (base : Base l bs h) (fewer : F
           let b : answerTo poll e h ≡ body = is ∙ cond-true body [] t in
           let m : remembered (l .code) (l .last) class ≡ cond (isPollAnswer class) (stackedType class) (l .last) = rw t in
           let q : reported (e ∷ h) ≡ cond (in-list body .test) body (reported h) = rw b in
-          let r : reported (e ∷ h) ≡ cond (isPollAnswer class) body (reported h) = q ∙ ap (λ (u : Bool). cond u body (reported h)) (listed-is body) in
-          m ∙ listed (isPollAnswer class) ∙ ap (λ (s : List ℕ). stackedType (classOf s)) (sym r)
+          let r : reported (e ∷ h) ≡ cond (isPollAnswer class) body (reported h) =
+          q ∙ ap (λ (u : Bool). cond u body (reported h)) (listed-is body ∙ ap isPollAnswer (sym (of-poll t))) in
+          m ∙ listed (isPollAnswer class) (ap stackedType (of-poll t)) ∙ ap (λ (s : List ℕ). stackedType (classOf s)) (sym r)
         where
-          listed : (u : Bool) → cond u (stackedType class) (l .last) ≡ stackedType (classOf (cond u body (reported h)))
-          listed true = refl
-          listed false = base .last-is
+          listed : (u : Bool) → stackedType class ≡ stackedType (classOf body) → cond u (stackedType class) (l .last) ≡ stackedType (classOf (cond u body (reported h)))
+          listed true same-type = same-type
+          listed false same-type = base .last-is
       by false t =
           let b : answerTo poll e h ≡ [] = is ∙ cond-false body [] t in
           let m : remembered (l .code) (l .last) class ≡ l .last = rw t in
@@ -110,12 +109,13 @@ module _ (l : Line) (bs : List Bills) (h : Past) (base : Base l bs h) (fewer : F
     to-a-poll : eqb (l .code) poll ≡ true → getD (bookedBy bs (credited (l .code) (l .last) class)) y (bills 0) .0 ≡ counted y (e ∷ h)
     to-a-poll t =
         let b : answerTo poll e h ≡ body = is ∙ cond-true body [] t in
+        let of : stackedType class ≡ stackedType (classOf body) = ap stackedType (of-poll t) in
         by-cases (same (stackedType class) (l .last))
         (λ repeat.
         rw (credits-repeat (l .code) (l .last) class t repeat)
         (stays
         (counted-none y e h (λ a.
-        let k : stackedType class ≡ y = stacked-is body y small .1 (sym b ∙ a .0) in
+        let k : stackedType class ≡ y = of ∙ stacked-is body y small .1 (sym b ∙ a .0) in
         a .1 (stacked-is (reported h) y small .0 (sym (base .last-is) ∙ sym repeat ∙ k))))
         types not-types))
         (λ new.
@@ -126,11 +126,11 @@ module _ (l : Line) (bs : List Bills) (h : Past) (base : Base l bs h) (fewer : F
         (booked-same bs y small (base .many) (omega (arith, fewer y small, base .counts y small, base .accepted-is, base .few))
         ∙ ap (λ (n : ℕ). n + 1) (base .counts y small)
         ∙ sym (counted-one y e h (
-          b ∙ stacked-is body y small .0 (sym k),
+          b ∙ stacked-is body y small .0 (sym of ∙ sym k),
           λ r. new (sym k ∙ sym (stacked-is (reported h) y small .1 r) ∙ sym (base .last-is)),
         ))))
         (λ n.
-        stays (counted-none y e h (λ a. n (sym (stacked-is body y small .1 (sym b ∙ a .0))))) (stackedType class) n)))
+        stays (counted-none y e h (λ a. n (sym (of ∙ stacked-is body y small .1 (sym b ∙ a .0))))) (stackedType class) n)))
 
     to-another : eqb (l .code) poll ≡ false → getD (bookedBy bs (credited (l .code) (l .last) class)) y (bills 0) .0 ≡ counted y (e ∷ h)
     to-another t =

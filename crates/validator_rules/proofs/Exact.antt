@@ -9,12 +9,12 @@ use Rattle.refusals.specs.Rules.{Rule, judged}
 use Rattle.refusals.proofs.Rules.{either-way}
 use Rattle.ccnet_frame.specs.Frame.{frame}
 use Rattle.ccnet_frame.specs.declared.class.Class.{Class}
-use Rattle.ccnet_frame.specs.declared.class.Class.the-variants.{Ack, Nak, Illegal, State, Busy, Rejecting, Failing, Escrow, Stacked, Returned, Unknown}
+use Rattle.ccnet_frame.specs.declared.class.Class.the-variants.{Ack, Nak, Illegal, State, Busy, Rejecting, Failing, Escrow, Stacked, Returned, Unknown, Table}
 use Rattle.ledger.specs.Calls.{IsDone}
 use Rattle.ledger.proofs.Declining.{told-apart, rising, given-exactly}
 use Rattle.validator_rules.specs.Line.{heard, passed}
 use Rattle.validator_rules.specs.Bills.{bookedBy}
-use Rattle.validator_rules.specs.Session.{After, Sent, sent, sending, LentAfter, StepAfter, byteRefusals, tickRefusals, requestRefusals, refusedStep, stepAfter, lentAfter, afterStep, damagedStep, answeredStep, classStep, judgedStep, judgeStep, found, acted, byteActed, byteStep, tickStep, requestStep, sessionRequest, sessionByte, sessionTick}
+use Rattle.validator_rules.specs.Session.{After, Sent, sent, sending, LentAfter, StepAfter, byteRefusals, tickRefusals, requestRefusals, refusedStep, stepAfter, lentAfter, heardAfter, afterStep, afterByte, damagedStep, answeredStep, classStep, judgedStep, judgeStep, found, acted, byteActed, byteStep, tickStep, requestStep, sessionRequest, sessionByte, sessionTick}
 use Rattle.validator_rules.specs.Calls.{returned}
 use Rattle.validator_rules.specs.Promises.{ExactlyWhen, sends, Sends}
 use Rattle.validator_rules.specs.declared.line.Line.{Line}
@@ -75,6 +75,7 @@ module _ (l : Line) (r : List ℕ) where
   class-told (Stacked y) = answered-told (Stacked y)
   class-told (Returned y) = answered-told (Returned y)
   class-told Unknown = answered-told Unknown
+  class-told Table = answered-told Table
 
   judged-told : (x : Found) → Tells (judgedStep x l r) r
   judged-told Bad = damaged-told
@@ -85,18 +86,18 @@ module _ (l : Line) (r : List ℕ) where
   acted-told CloseDamaged store = damaged-told
   acted-told CloseSilent store = record { put = _; closing = _; is = refl; sent-is = refl }
 
-  byte-told : (t : Heard) (n : ℕ) (store : List ℕ) (at b : ℕ) → Tells (byteActed t l n store at b r) r
+  byte-told : (t : Heard) (n : ℕ) (store table : List ℕ) (at b : ℕ) → Tells (byteActed t l n store table at b r .lent) r
   unfolding judgeStep
-  byte-told Skip n store at b = record { put = _; closing = _; is = refl; sent-is = refl }
-  byte-told Keep n store at b = record { put = _; closing = _; is = refl; sent-is = refl }
-  byte-told Judge n store at b = judged-told (found (take n (set store at b)))
-  byte-told Wrong n store at b = damaged-told
+  byte-told Skip n store table at b = record { put = _; closing = _; is = refl; sent-is = refl }
+  byte-told Keep n store table at b = record { put = _; closing = _; is = refl; sent-is = refl }
+  byte-told Judge n store table at b = judged-told (found (l .code) (take n (set store at b)))
+  byte-told Wrong n store table at b = damaged-told
 
 -- ---- the three calls
 
 -- the outcome of a request that was judged
 abbrev opening : Session → StepAfter → After
-opening s w = record { session = record { line = w .step .line; bills = s .bills; store = s .store }; reply = w .step .reply; room = w .room }
+opening s w = record { session = record { line = w .step .line; bills = s .bills; store = s .store; table = s .table }; reply = w .step .reply; room = w .room }
 
 -- the numbers that the rules give rise
 request-rises : (l : Line) (code : ℕ) (given r : List ℕ) → rising (requestRefusals l code given r) ≡ true
@@ -119,11 +120,11 @@ exactly-when =
           given-exactly told-apart (λ why. stepAfter (refusedStep (s .line) why) r) _ (opening s) (request-rises (s .line) code given r) (λ why. refl) (λ why. refl) (_, (_, refl));
       byte = λ s b r.
           let t = heard (s .line) b in
-          given-exactly told-apart (λ why. lentAfter (refusedStep (s .line) why) (s .store) r) _ (afterStep s) (byte-rises r) (λ why. refl) (λ why. refl)
-          (is-done (byte-told (t .line) r (t .heard) (s .line .length) (s .store) (s .line .gathered) b));
+          given-exactly told-apart (λ why. heardAfter (lentAfter (refusedStep (s .line) why) (s .store) r) (s .table)) _ (afterByte s) (byte-rises r) (λ why. refl) (λ why. refl)
+          (is-done (byte-told (t .line) r (t .heard) (s .line .length) (s .store) (s .table) (s .line .gathered) b));
       tick = λ s ms r.
           let t = passed (s .line) ms in
-          given-exactly told-apart (λ why. lentAfter (refusedStep (s .line) why) (s .store) r) _ (afterStep s) (tick-rises ms r) (λ why. refl) (λ why. refl)
+          given-exactly told-apart (λ why. lentAfter (refusedStep (s .line) why) (s .store) r) _ (λ w. afterStep s w (s .table)) (tick-rises ms r) (λ why. refl) (λ why. refl)
           (is-done (acted-told (t .line) r (t .todo) (s .store)));
     }
 
@@ -136,10 +137,10 @@ what-is-sent =
           (λ c. sending (frame 0x03 (code ∷ given)) r) (λ why. refl) (record { put = _; closing = _; is = refl; sent-is = refl });
       byte = λ s b r.
           let t = heard (s .line) b in
-          tells (byteRefusals r) (λ why. lentAfter (refusedStep (s .line) why) (s .store) r) _ (afterStep s)
-          (λ c. sends c r) (λ why. refl) (byte-told (t .line) r (t .heard) (s .line .length) (s .store) (s .line .gathered) b);
+          tells (byteRefusals r) (λ why. heardAfter (lentAfter (refusedStep (s .line) why) (s .store) r) (s .table)) _ (afterByte s)
+          (λ c. sends c r) (λ why. refl) (byte-told (t .line) r (t .heard) (s .line .length) (s .store) (s .table) (s .line .gathered) b);
       tick = λ s ms r.
           let t = passed (s .line) ms in
-          tells (tickRefusals ms r) (λ why. lentAfter (refusedStep (s .line) why) (s .store) r) _ (afterStep s)
+          tells (tickRefusals ms r) (λ why. lentAfter (refusedStep (s .line) why) (s .store) r) _ (λ w. afterStep s w (s .table))
           (λ c. sends c r) (λ why. refl) (acted-told (t .line) r (t .todo) (s .store));
     }

@@ -14,7 +14,7 @@ use Rattle.refusals.proofs.Rules.{holds-true, fails-false, cond-true, cond-fals
 use Rattle.ccnet_frame.specs.Frame.{closed as with-check, frame}
 use Rattle.ccnet_frame.specs.Class.{isState, isRejection, isFailure, isType, oneByte, twoBytes, listed, classOf, classBytes}
 use Rattle.ccnet_frame.specs.declared.class.Class.{Class}
-use Rattle.ccnet_frame.specs.declared.class.Class.the-variants.{Ack, Nak, Illegal, State, Busy, Rejecting, Failing, Escrow, Stacked, Returned, Unknown}
+use Rattle.ccnet_frame.specs.declared.class.Class.the-variants.{Ack, Nak, Illegal, State, Busy, Rejecting, Failing, Escrow, Stacked, Returned, Unknown, Table}
 use Rattle.ccnet_frame.proofs.Classes.{classes}
 use Rattle.validator_rules.specs.Limits.{types}
 use Rattle.validator_rules.specs.Bills.{stackedType, isPollAnswer, poll}
@@ -140,6 +140,7 @@ stacked-bytes (Escrow b) y h e = absurd (omega arith)
 stacked-bytes (Stacked b) y h e = ap Stacked e
 stacked-bytes (Returned b) y h e = absurd (omega arith)
 stacked-bytes Unknown y h e = absurd (omega arith)
+stacked-bytes Table y h e = absurd (omega arith)
 
 pub stacked-is : (s : List ℕ) (y : ℕ) → y < types → (stackedType (classOf s) ≡ y) ↔ (s ≡ 0x81 ∷ y ∷ [])
 stacked-is s y h = (

@@ -5,7 +5,7 @@ use mathlib.Core.List.{List}
 use lib.Dec.{ltb, leb, eqb}
 use lib.ListN.{getD, set, replicate}
 use Rattle.ccnet_frame.specs.declared.class.Class.{Class}
-use Rattle.ccnet_frame.specs.declared.class.Class.the-variants.{Ack, Nak, Illegal, State, Busy, Rejecting, Failing, Escrow, Stacked, Returned, Unknown}
+use Rattle.ccnet_frame.specs.declared.class.Class.the-variants.{Ack, Nak, Illegal, State, Busy, Rejecting, Failing, Escrow, Stacked, Returned, Unknown, Table}
 use Rattle.validator_rules.specs.Limits.{types}
 use Rattle.validator_rules.specs.declared.bills.Bills.{Bills}
 
@@ -37,6 +37,7 @@ stackedType (Escrow y) = types
 stackedType (Stacked y) = y
 stackedType (Returned y) = types
 stackedType Unknown = types
+stackedType Table = types
 
 -- is it a listed poll answer? ACK, NAK and "illegal" are neither listed nor unknown: they close without a reply
 abbrev pub isPollAnswer : Class → Bool
@@ -51,6 +52,7 @@ isPollAnswer (Escrow y) = true
 isPollAnswer (Stacked y) = true
 isPollAnswer (Returned y) = true
 isPollAnswer Unknown = false
+isPollAnswer Table = false
 
 -- POLL's code
 abbrev pub poll : ℕ

@@ -11,6 +11,8 @@ use lib.ListN.{length, getD, take, drop, replicate}
 use Rattle.refusals.specs.Rules.{Tells, Condition, Rule, says, under, atMost, within, same, both, isnt, and-tells, _gives_}
 use Rattle.ccnet_frame.specs.Frame.{frame}
 use Rattle.ccnet_frame.specs.Class.{listed, classOf}
+use Rattle.ccnet_frame.specs.declared.class.Class.{Class}
+use Rattle.ccnet_frame.specs.declared.class.Class.the-variants.{Unknown, Table}
 use Rattle.ledger.specs.Events.{Deed, asks, hears, waits, own, Left, goes-on, closes, declined, done, since}
 use Rattle.ledger.specs.Line.{isOpen, quietTime, ofNewest, accepted}
 use Rattle.ledger.specs.Waiting.{waited}
@@ -68,6 +70,15 @@ unfoldable pub reported : Past → List ℕ
 reported [] = []
 reported (e ∷ h) = cond (listed (answerTo poll e h) .test) (answerTo poll e h) (reported h)
 
+-- "the last table read holds, its words' bytes kept"; "unsent bytes count as zero"; "A body over 120 bytes is unknown" (02, Q-1): the body of the last answer to GET BILL
+-- TABLE that is a table, filled up to 120 bytes; 120 zeros before the first
+unfoldable pub tableBy : Past → List ℕ
+tableBy [] = replicate 120 0
+tableBy (e ∷ h) =
+    cond (within 1 120 (length (answerTo 0x41 e h)) .test)
+    (answerTo 0x41 e h ++ replicate (120 - length (answerTo 0x41 e h)) 0)
+    (tableBy h)
+
 -- two lists of bytes are the same
 abbrev pub sameTest : List ℕ → List ℕ → Bool
 sameTest [] [] = true
@@ -110,19 +121,25 @@ Carries f body = (f ≡ frame 0x03 body) × within 1 250 (length body) .holds
 abbrev pub Other : List ℕ → Type 0
 Other body = (body ≡ 0x00 ∷ [] → ⊥) × ((body ≡ 0xFF ∷ [] → ⊥) × (body ≡ 0x30 ∷ [] → ⊥))
 
+-- what such a body says in answer to a command: to GET BILL TABLE a body of up to 120 bytes is the table, whatever else it could say, and a longer one is unknown; to any other
+-- command its class
+abbrev pub Means : ℕ → List ℕ → Class → Type 0
+Means code body c =
+    (code ≡ 0x41 → (length body ≤ 120 → c ≡ Table) × (120 < length body → c ≡ Unknown)) × ((code ≡ 0x41 → ⊥) → c ≡ classOf body)
+
 -- bytes from 02h on that close nothing yet: an address, if it has come, of 03h; a length byte, if it has come, of at least 6 and of more than have come
 abbrev pub Unfinished : List ℕ → Type 0
 Unfinished f = (2 ≤ length f → getD f 1 0 ≡ 0x03) × (3 ≤ length f → (6 ≤ getD f 2 0) × (length f < getD f 2 0))
 
--- what the bytes from 02h on are where a byte closes the command: a good frame from address 03h, and the closing is what its body says; or, where it is damaged ("a wrong
+-- what the bytes from 02h on are where a byte closes a command with that code: a good frame from address 03h, and the closing is what its body says; or, where it is damaged ("a wrong
 -- address (not 03h) or length byte, at that byte, a wrong check"), neither that nor unfinished. No byte closes as silent
-abbrev pub Says : Ending → List ℕ → Type 0
-Says acknowledged f = Carries f (0x00 ∷ [])
-Says not-acknowledged f = Carries f (0xFF ∷ [])
-Says illegal-command f = Carries f (0x30 ∷ [])
-Says (answered c) f = Carries f (between f) × (Other (between f) × (c ≡ classOf (between f)))
-Says damaged f = (Unfinished f → ⊥) × ((body : List ℕ) → Carries f body → ⊥)
-Says silent f = ⊥
+abbrev pub Says : ℕ → Ending → List ℕ → Type 0
+Says code acknowledged f = Carries f (0x00 ∷ [])
+Says code not-acknowledged f = Carries f (0xFF ∷ [])
+Says code illegal-command f = Carries f (0x30 ∷ [])
+Says code (answered c) f = Carries f (between f) × (Other (between f) × Means code (between f) c)
+Says code damaged f = (Unfinished f → ⊥) × ((body : List ℕ) → Carries f body → ⊥)
+Says code silent f = ⊥
 
 -- "The answer's 02h must come within 10 ms, the whole within 400 ms of it": the wait begins anew with a request, and with the first byte of an answer
 abbrev pub starts : Past → Deed Request Own → Bool
@@ -148,7 +165,7 @@ InTime f t = (f ≡ [] → t < startWait) × ((f ≡ [] → ⊥) → t < frameWa
 -- an open command is closed by what was called after h; a request closes nothing
 abbrev pub ClosesBy : Deed Request Own → Ending → Past → Type 0
 ClosesBy (asks q) k h = ⊥
-ClosesBy (hears b) k h = Says k (fromStart (since h ++ (b ∷ [])))
+ClosesBy (hears b) k h = Says (lastCode h) k (fromStart (since h ++ (b ∷ [])))
 ClosesBy (waits ms) k h = Lapses k (fromStart (since h)) (waited starts h + ms)
 ClosesBy (own o) k h = ⊥
 
@@ -190,12 +207,13 @@ Truly (done d put left ∷ h) = Due left d h × ((put ≡ puts d left) × Truly 
 
 -- ---- what is promised, from a fresh session and after any calls at all
 
--- the count of each type is what the history gives, so that none is ever cut; it is at most the number of commands that may be accepted; the
--- gathering store holds the bytes gathered from 02h on, and then zeros: "all zero when fresh and again after each closing"; and every call
+-- the count of each type is what the history gives, so that none is ever cut; it is at most the number of commands that may be accepted; the bill table is the one that
+-- the history gives; the gathering store holds the bytes gathered from 02h on, and then zeros: "all zero when fresh and again after each closing"; and every call
 -- closes what is due and puts what is due
 pub record KeptByHistory : Type 0 where
   pub bills : (cs : List Call) (y : ℕ) → y < types → getD (run host freshSession cs .bills) y (bills 0) .0 ≡ counted y (history cs)
   pub few : (cs : List Call) (y : ℕ) → y < types → counted y (history cs) ≤ commandLimit
+  pub table : (cs : List Call) → run host freshSession cs .table ≡ tableBy (history cs)
   pub store : (cs : List Call)
       → run host freshSession cs .store ≡ gathered (history cs) ++ replicate (storeSize - length (gathered (history cs))) 0
   pub closings : (cs : List Call) → Truly (history cs)

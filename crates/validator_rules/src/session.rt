@@ -35,11 +35,13 @@ pub struct Step {
     pub reply: Reply,
 }
 
-// The session: the line, the bills of each type and the gathering store.
+// The session: the line, the bills of each type, the gathering store and the last bill table read.
 pub struct Session {
     pub line: Line,
     pub bills: [Bills; 24],
     pub store: [u8; 255],
+    // Its 120 bytes, all zero before the first; `bill_table` says what its words mean.
+    pub table: [u8; 120],
 }
 
 // What a call by value leaves.
@@ -72,7 +74,7 @@ impl Session {
 
     pub const TICK: u32 = 1_000;
 
-    // No bills, nothing open, zero quiet time, nothing gathered, nothing remembered.
+    // No bills, nothing open, zero quiet time, nothing gathered, nothing remembered, no bill table.
     pub fn fresh() -> Session
         ensures { λ r. ⌜ r ≡ freshSession ⌝ }
     {
@@ -88,6 +90,7 @@ impl Session {
             },
             bills: [Bills(0); 24],
             store: [0; 255],
+            table: [0; 120],
         }
     }
 }

@@ -23,7 +23,7 @@ assembled-requires c κs = search needs
 
 returns : tie.Need-returns
 unfolding sessionClear bookedBy entered
-returns c = λ a bs store store255. simp (c .assembled .ensures, c .before .before .counted .ensures, c .before .before .before .payer-declines .ensures, c .before .before .before .before .before .step-clear .ensures)
+returns c = λ a bs store store255 table. simp (c .assembled .ensures, c .before .before .counted .ensures, c .before .before .before .payer-declines .ensures, c .before .before .before .before .before .step-clear .ensures)
 
 pub cleared-spec : {M : Type 1} → statement M
 cleared-spec = tie.close (tie.spec step-clear-requires payer-declines-requires counted-requires add-records assembled-requires returns)

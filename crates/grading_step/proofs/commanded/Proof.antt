@@ -31,9 +31,9 @@ assembled-requires c κs = search needs
 returns : tie.Need-returns
 unfolding sessionRequest bookedBy entered
 returns c =
-    λ a bs store store255.
+    λ a bs store store255 table.
     let args = c .before .before .before .before .before .before .before .before .before .before .before .before .args in
-    simp (c .assembled .ensures, c .before .before .counted .ensures, c .before .before .before .taker-declines .ensures) (by-request (joined (args .run) a bs store store255) (c .before .before .before .before .before .before .step-request .ensures))
+    simp (c .assembled .ensures, c .before .before .counted .ensures, c .before .before .before .taker-declines .ensures) (by-request (joined (args .run) a bs store store255 table) (c .before .before .before .before .before .before .step-request .ensures))
 
 pub commanded-spec : {M : Type 1} → statement M
 commanded-spec = tie.close (tie.spec slice-aggregate-step-request slice-aggregate-step-request-2 step-request-requires taker-declines-requires counted-requires add-records assembled-requires returns)

@@ -32,11 +32,11 @@ assembled-requires c κs = search needs
 returns : tie.Need-returns
 unfolding sessionByte accountHeard bookedBy
 returns c =
-    λ a bs store255.
+    λ a bs store255 table.
     let args = c .before .before .before .before .before .before .before .before .before .before .before .before .before .before .before .args in
     let n = c .before .before .before .before .before .before .before .before .before .step-byte .result .line .handed in
     simp (c .assembled .ensures, c .before .heard .ensures a (args .run .asked) n, entered-heard a (args .run .asked) n (c .before .before .before .before .before .before .before .before .before .step-byte .result .reply), c .before .before .before .before .before .counted .ensures, c .before .before .before .before .before .before .payer-declines .ensures)
-    (by-heard (joined (args .run) a bs (args .store .now) store255) (c .before .before .before .before .before .before .before .before .before .step-byte .ensures))
+    (by-heard (joined (args .run) a bs (args .store .now) store255 table) (c .before .before .before .before .before .before .before .before .before .step-byte .ensures))
 
 pub dispenser-byte-spec : {M : Type 1} → statement M
 dispenser-byte-spec = tie.close (tie.spec slice-aggregate-step-byte step-byte-requires payer-declines-requires counted-requires add-records heard-requires assembled-requires returns)

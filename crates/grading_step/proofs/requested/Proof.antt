@@ -26,7 +26,7 @@ assembled-requires c κs = search needs
 
 returns : tie.Need-returns
 unfolding sessionRequest accountAsked bookedBy entered
-returns c = λ a bs store store255. simp (c .assembled .ensures, ← c .before .before .before .before .before .before .before .step-request .ensures, c .before .before .counted .ensures, c .before .before .before .payer-declines .ensures)
+returns c = λ a bs store store255 table. simp (c .assembled .ensures, ← c .before .before .before .before .before .before .before .step-request .ensures, c .before .before .counted .ensures, c .before .before .before .payer-declines .ensures)
 
 pub requested-spec : {M : Type 1} → statement M
 requested-spec = tie.close (tie.spec slice-aggregate-step-request step-request-requires payer-declines-requires counted-requires add-records assembled-requires returns)

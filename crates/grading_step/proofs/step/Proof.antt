@@ -40,22 +40,22 @@ cleared-requires : tie.Need-cleared-requires
 cleared-requires c κs = search needs
 
 returns : tie.Need-returns
-returns c = λ a bs. let args = c .before .before .before .before .args in rw (c .before .before .x .given .1) (c .requested .ensures a bs (args .store .now) (args .store255 .now))
+returns c = λ a bs. let args = c .before .before .before .before .args in rw (c .before .before .x .given .1) (c .requested .ensures a bs (args .store .now) (args .store255 .now) (args .table .now))
 
 returns-2 : tie.Need-returns-2
-returns-2 c = λ a bs. let args = c .before .before .before .before .before .args in rw (c .before .before .before .x2 .given .1) (c .dispenser-byte .ensures a bs (args .store255 .now))
+returns-2 c = λ a bs. let args = c .before .before .before .before .before .args in rw (c .before .before .before .x2 .given .1) (c .dispenser-byte .ensures a bs (args .store255 .now) (args .table .now))
 
 returns-3 : tie.Need-returns-3
-returns-3 c = λ a bs. let args = c .before .before .before .before .before .args in rw (c .before .before .before .x3 .given .1) (c .ticked .ensures a bs (args .store .now))
+returns-3 c = λ a bs. let args = c .before .before .before .before .before .args in rw (c .before .before .before .x3 .given .1) (c .ticked .ensures a bs (args .store .now) (args .table .now))
 
 returns-4 : tie.Need-returns-4
-returns-4 c = λ a bs. let args = c .before .before .before .before .before .args in rw (c .before .before .before .x4 .given .1) (c .validator-byte .ensures a bs (args .store .now))
+returns-4 c = λ a bs. let args = c .before .before .before .before .before .before .args in rw (c .before .before .before .before .x4 .given .1) (c .validator-byte .ensures a bs (args .store .now))
 
 returns-5 : tie.Need-returns-5
-returns-5 c = λ a bs. let args = c .before .before .before .before .args in rw (c .before .before .x5 .given .1) (c .commanded .ensures a bs (args .store .now) (args .store255 .now))
+returns-5 c = λ a bs. let args = c .before .before .before .before .args in rw (c .before .before .x5 .given .1) (c .commanded .ensures a bs (args .store .now) (args .store255 .now) (args .table .now))
 
 returns-6 : tie.Need-returns-6
-returns-6 c = λ a bs. let args = c .before .before .before .args in rw (c .before .enum-told .given .1) (c .cleared .ensures a bs (args .store .now) (args .store255 .now))
+returns-6 c = λ a bs. let args = c .before .before .before .args in rw (c .before .enum-told .given .1) (c .cleared .ensures a bs (args .store .now) (args .store255 .now) (args .table .now))
 
 pub step-spec : {M : Type 1} → statement M
 step-spec =

@@ -45,11 +45,11 @@ assembled-requires c κs = search needs
 returns : tie.Need-returns
 unfolding sessionTick accountHeard takerTick
 returns c =
-    λ a bs store.
+    λ a bs store table.
     let args = c .before .before .before .before .before .before .before .before .before .before .before .before .before .before .before .before .before .before .before .args in
     let n = c .before .before .before .before .before .before .before .before .before .before .before .before .before .before .step-tick .result .line .handed in
     simp (c .assembled .ensures, c .before .heard .ensures a (args .run .asked) n, entered-heard a (args .run .asked) n (c .before .before .before .before .before .before .before .before .before .before .before .before .before .before .step-tick .result .reply), c .before .before .before .counted .ensures, c .before .before .before .before .either .ensures, c .before .before .before .before .before .taker-declines .ensures, c .before .before .before .before .before .before .payer-declines .ensures)
-    (by-tick (joined (args .run) a bs store (args .store255 .now)) (c .before .before .before .before .before .before .before .before .before .before .before .before .before .before .step-tick .ensures) (c .before .before .before .before .before .before .before .before .before .step-tick2 .ensures))
+    (by-tick (joined (args .run) a bs store (args .store255 .now) table) (c .before .before .before .before .before .before .before .before .before .before .before .before .before .before .step-tick .ensures) (c .before .before .before .before .before .before .before .before .before .step-tick2 .ensures))
 
 pub ticked-spec : {M : Type 1} → statement M
 ticked-spec = tie.close (tie.spec slice-aggregate-step-tick step-tick-requires slice-aggregate-step-tick-2 step-tick-requires-2 payer-declines-requires taker-declines-requires either-requires counted-requires add-records heard-requires assembled-requires returns)

@@ -28,8 +28,8 @@ returns : tie.Need-returns
 unfolding sessionByte entered
 returns c =
     λ a bs store.
-    let args = c .before .before .before .before .before .before .before .before .before .before .before .before .args in
-    simp (c .assembled .ensures, c .before .before .counted .ensures, c .before .before .before .taker-declines .ensures) (by-byte (joined (args .run) a bs store (args .store255 .now)) (c .before .before .before .before .before .before .step-byte .ensures))
+    let args = c .before .before .before .before .before .before .before .before .before .before .before .before .before .args in
+    simp (c .assembled .ensures, c .before .before .counted .ensures, c .before .before .before .taker-declines .ensures) (by-byte (joined (args .run) a bs store (args .store255 .now) (args .table .now)) (c .before .before .before .before .before .before .step-byte .ensures))
 
 pub validator-byte-spec : {M : Type 1} → statement M
 validator-byte-spec = tie.close (tie.spec slice-aggregate-step-byte step-byte-requires taker-declines-requires counted-requires add-records assembled-requires returns)

@@ -22,7 +22,13 @@ unfolding inList among
 returns-4 c = rw (c .if4 .taken)
 
 returns-5 : tie.Need-returns-5
-returns-5 c = last-listed (c .before .before .before .before .args .code) (c .before .before .before .if1 .left) (c .before .before .if2 .left) (c .before .if3 .left) (c .if4 .left)
+unfolding inList among
+returns-5 c = rw (c .if5 .taken)
+
+returns-6 : tie.Need-returns-6
+returns-6 c =
+    last-listed (c .before .before .before .before .before .args .code) (c .before .before .before .before .if1 .left) (c .before .before .before .if2 .left) (c .before .before .if3 .left)
+    (c .before .if4 .left) (c .if5 .left)
 
 pub is-command-spec : {M : Type 1} → statement M
-is-command-spec = tie.close (tie.spec returns returns-2 returns-3 returns-4 returns-5)
+is-command-spec = tie.close (tie.spec returns returns-2 returns-3 returns-4 returns-5 returns-6)

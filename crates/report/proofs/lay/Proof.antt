@@ -3,7 +3,7 @@ use mathlib.Core.Path.{_≡_, refl}
 use Prim.Native.Nat.{_-_, _≤_}
 use lib.ListN.{length, take, drop, length-set}
 use Rattle.refusals.proofs.Writing.{writing-refused, writing-laid}
-use Rattle.report.proofs.Adding.{lay-byte, lay-rest, lay-all}
+use Rattle.report.proofs.Laying.{lay-byte, lay-rest, lay-all}
 use borrow.Author.Needs.{needs}
 use native.Mathlib.Omega.{arith}
 use Rattle.report.proofs.lay.Statement.{statement}

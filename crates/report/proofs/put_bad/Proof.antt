@@ -1,5 +1,5 @@
 -- `report::put_bad` meets its contract. Assumes nothing.
-use Rattle.report.proofs.Lines.{line-added}
+use Rattle.report_lines.proofs.Lines.{line-added}
 use borrow.Author.Needs.{needs}
 use native.Mathlib.Omega.{arith}
 use Rattle.report.proofs.put_bad.Statement.{statement}

@@ -1,5 +1,5 @@
 -- `report::put_good` meets its contract. Assumes nothing.
-use Rattle.report.proofs.Lines.{lines-added, first-added, one-added}
+use Rattle.report_lines.proofs.Lines.{lines-added, first-added, one-added}
 use native.Mathlib.Omega.{arith}
 use borrow.Author.Needs.{needs}
 use Rattle.report.proofs.put_good.Statement.{statement}

@@ -1,6 +1,6 @@
 -- `report::put_report` meets its contract. Assumes nothing.
 use Rattle.report.specs.Report.{reportText}
-use Rattle.report.proofs.Lines.{one-added}
+use Rattle.report_lines.proofs.Lines.{one-added}
 use borrow.Author.Needs.{needs}
 use Rattle.report.proofs.put_report.Statement.{statement}
 use Rattle.report.proofs.put_report.Tie as tie
@@ -22,7 +22,7 @@ same-length c = search needs
 
 returns : tie.Need-returns
 unfolding reportText
-returns c = rw (c .before .before .before .before .enum-told .given .1) (c .before .before .put-good .ensures)
+returns c = rw (c .before .before .before .before .before .enum-told .given .1) (c .before .before .put-good .ensures)
 
 same-length-2 : tie.Need-same-length-2
 same-length-2 c = search needs

@@ -1,7 +1,7 @@
 -- `report::write_report` meets its contract: the text fits its own room, and is laid in the one lent. Assumes nothing.
 use mathlib.Core.Path.{ap, _∙_}
 use Rattle.refusals.specs.Put.{writing}
-use Rattle.report.proofs.Adding.{text-laid}
+use Rattle.report.proofs.Laying.{text-laid}
 use borrow.Author.Needs.{needs}
 use Rattle.report.proofs.write_report.Statement.{statement}
 use Rattle.report.proofs.write_report.Tie as tie

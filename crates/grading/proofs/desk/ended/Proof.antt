@@ -26,7 +26,7 @@ bad-requires c κs = search needs
 
 returns : tie.Need-returns
 unfolding endedReplay
-returns c = rw (sym (c .before .before .before .before .before .before .before .before .ended .ensures) ∙ c .before .before .before .before .before .before .enum-told .given .1)
+returns c = rw (sym (c .before .before .before .before .before .before .before .before .before .ended .ensures) ∙ c .before .before .before .before .before .before .before .enum-told .given .1)
 
 returns-2 : tie.Need-returns-2
 unfolding endedReplay

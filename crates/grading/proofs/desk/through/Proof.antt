@@ -19,14 +19,14 @@ use Rattle.grading.proofs.desk.through.Statement.{statement}
 use Rattle.grading.proofs.desk.through.Tie as tie
 
 abbrev Inv-loop : tie.InvT-loop
-Inv-loop piece begun fed declined records run₀ books₀ slots₀ bills₀ store₀ store255₀ cut₀ glances₀ all i₀ run books slots bills store store255 cut glances i =
+Inv-loop piece begun fed declined records run₀ books₀ slots₀ bills₀ store₀ store255₀ table₀ cut₀ glances₀ all i₀ run books slots bills store store255 table cut glances i =
     (i ≤ length piece) × (fed + length piece ≤ 4_294_967_295) × (run .declined ≤ run .records) × (run .records ≤ fed + i) × (all ≡ glancesIn false piece)
     × (glances ≤ glancesIn cut piece) × (cut ≡ true → Inside (begun .place))
-    × (fedPiece (replayOn (joined run (shelf books slots) bills store store255) (cond cut begun freshReader) (fed + i)) (drop i piece)
-    ≡ fedPiece (replayOn (joined run₀ (shelf books₀ slots₀) bills₀ store₀ store255₀) begun fed) piece)
+    × (fedPiece (replayOn (joined run (shelf books slots) bills store store255 table) (cond cut begun freshReader) (fed + i)) (drop i piece)
+    ≡ fedPiece (replayOn (joined run₀ (shelf books₀ slots₀) bills₀ store₀ store255₀ table₀) begun fed) piece)
 
 abbrev μ-loop : tie.MeasureT-loop
-μ-loop piece begun fed declined records run₀ books₀ slots₀ bills₀ store₀ store255₀ cut₀ glances₀ all i₀ run books slots bills store store255 cut glances i = length piece - i
+μ-loop piece begun fed declined records run₀ books₀ slots₀ bills₀ store₀ store255₀ table₀ cut₀ glances₀ all i₀ run books slots bills store store255 table cut glances i = length piece - i
 
 cast-fed : tie.Need-cast-fed Inv-loop μ-loop
 cast-fed c = search needs
@@ -48,7 +48,7 @@ glances-in-requires-2 c κs = search needs
 
 loop-holds : tie.Need-loop-holds Inv-loop μ-loop
 loop-holds c =
-    let w = c .before .before .before .before .before .before .before .before .before .before .before .before .before .before .before .before .before .before .before .before .before .before .before in (
+    let w = c .before .before .before .before .before .before .before .before .before .before .before .before .before .before .before .before .before .before .before .before .before .before .before .before in (
       omega arith,
       omega (arith, w .pre .1 .1 .1),
       omega (arith, w .pre .0 .declined-most),
@@ -90,7 +90,7 @@ returns c =
     let turn = c .before .before .before .before .before .before .before .before .before .before .loop in
     let inv = turn .inv in
     let h = c .before .before .before .before .before .before .before .before .before .loop-test .taken in
-    let d = joined (turn .run) (shelf (turn .books) (turn .slots)) (turn .bills) (turn .store) (turn .store255) in
+    let d = joined (turn .run) (shelf (turn .books) (turn .slots)) (turn .bills) (turn .store) (turn .store255) (turn .table) in
     let found = c .before .before .before .before .before .before .before .before .record-in .result in
     let told = c .before .before .before .before .before .before .before .before .record-in .ensures in
     c .rejoined .ensures
@@ -107,7 +107,7 @@ returns-2 c =
     let turn = c .before .before .before .before .before .before .before .before .loop in
     let inv = turn .inv in
     let h = c .before .before .before .before .before .before .before .loop-test .taken in
-    let d = joined (turn .run) (shelf (turn .books) (turn .slots)) (turn .bills) (turn .store) (turn .store255) in
+    let d = joined (turn .run) (shelf (turn .books) (turn .slots)) (turn .bills) (turn .store) (turn .store255) (turn .table) in
     let found = c .before .before .before .before .before .before .record-in .result in
     let told = c .before .before .before .before .before .before .record-in .ensures in
     c .broken .ensures
@@ -119,7 +119,7 @@ enum-known-found-2 c = search needs
 
 step-requires : tie.Need-step-requires Inv-loop μ-loop
 step-requires c κs =
-    let inv = c .before .before .before .before .before .before .before .loop .inv in
+    let inv = c .before .before .before .before .before .before .before .before .loop .inv in
     (omega (arith, inv .0, inv .1, inv .2, inv .3), omega (arith, inv .0, inv .1, inv .3))
 
 booked-requires : tie.Need-booked-requires Inv-loop μ-loop
@@ -139,39 +139,39 @@ booked-requires-2 c κs = search needs
 
 add-i : tie.Need-add-i Inv-loop μ-loop
 add-i c =
-    let turn = c .before .before .before .before .before .before .before .before .before .before .before .before .before .before .before .before .before .loop in
+    let turn = c .before .before .before .before .before .before .before .before .before .before .before .before .before .before .before .before .before .before .loop in
     let inv = turn .inv in
-    let h = c .before .before .before .before .before .before .before .before .before .before .before .before .before .before .before .before .loop-test .taken in
-    let d = joined (turn .run) (shelf (turn .books) (turn .slots)) (turn .bills) (turn .store) (turn .store255) in
-    let found = c .before .before .before .before .before .before .before .before .before .before .before .before .before .before .before .record-in .result in
-    let told = c .before .before .before .before .before .before .before .before .before .before .before .before .before .before .before .record-in .ensures in
-    let f = further _ _ (turn .i) (turn .cut) _ h (inv .1) (inv .6) found told d _ _ (c .before .before .before .before .before .before .before .before .before .before .before .before .before .found2 .given .1) in
+    let h = c .before .before .before .before .before .before .before .before .before .before .before .before .before .before .before .before .before .loop-test .taken in
+    let d = joined (turn .run) (shelf (turn .books) (turn .slots)) (turn .bills) (turn .store) (turn .store255) (turn .table) in
+    let found = c .before .before .before .before .before .before .before .before .before .before .before .before .before .before .before .before .record-in .result in
+    let told = c .before .before .before .before .before .before .before .before .before .before .before .before .before .before .before .before .record-in .ensures in
+    let f = further _ _ (turn .i) (turn .cut) _ h (inv .1) (inv .6) found told d _ _ (c .before .before .before .before .before .before .before .before .before .before .before .before .before .before .found2 .given .1) in
     omega (arith, f .1, inv .1)
 
 loop-less : tie.Need-loop-less Inv-loop μ-loop
 loop-less c =
-    let turn = c .before .before .before .before .before .before .before .before .before .before .before .before .before .before .before .before .before .loop in
+    let turn = c .before .before .before .before .before .before .before .before .before .before .before .before .before .before .before .before .before .before .loop in
     let inv = turn .inv in
-    let h = c .before .before .before .before .before .before .before .before .before .before .before .before .before .before .before .before .loop-test .taken in
-    let d = joined (turn .run) (shelf (turn .books) (turn .slots)) (turn .bills) (turn .store) (turn .store255) in
-    let found = c .before .before .before .before .before .before .before .before .before .before .before .before .before .before .before .record-in .result in
-    let told = c .before .before .before .before .before .before .before .before .before .before .before .before .before .before .before .record-in .ensures in
-    let f = further _ _ (turn .i) (turn .cut) _ h (inv .1) (inv .6) found told d _ _ (c .before .before .before .before .before .before .before .before .before .before .before .before .before .found2 .given .1) in
+    let h = c .before .before .before .before .before .before .before .before .before .before .before .before .before .before .before .before .before .loop-test .taken in
+    let d = joined (turn .run) (shelf (turn .books) (turn .slots)) (turn .bills) (turn .store) (turn .store255) (turn .table) in
+    let found = c .before .before .before .before .before .before .before .before .before .before .before .before .before .before .before .before .record-in .result in
+    let told = c .before .before .before .before .before .before .before .before .before .before .before .before .before .before .before .before .record-in .ensures in
+    let f = further _ _ (turn .i) (turn .cut) _ h (inv .1) (inv .6) found told d _ _ (c .before .before .before .before .before .before .before .before .before .before .before .before .before .before .found2 .given .1) in
     omega (arith, f .0, f .1)
 
 loop-again : tie.Need-loop-again Inv-loop μ-loop
 loop-again c =
-    let turn = c .before .before .before .before .before .before .before .before .before .before .before .before .before .before .before .before .before .loop in
+    let turn = c .before .before .before .before .before .before .before .before .before .before .before .before .before .before .before .before .before .before .loop in
     let inv = turn .inv in
-    let h = c .before .before .before .before .before .before .before .before .before .before .before .before .before .before .before .before .loop-test .taken in
-    let d = joined (turn .run) (shelf (turn .books) (turn .slots)) (turn .bills) (turn .store) (turn .store255) in
-    let found = c .before .before .before .before .before .before .before .before .before .before .before .before .before .before .before .record-in .result in
-    let told = c .before .before .before .before .before .before .before .before .before .before .before .before .before .before .before .record-in .ensures in
+    let h = c .before .before .before .before .before .before .before .before .before .before .before .before .before .before .before .before .before .loop-test .taken in
+    let d = joined (turn .run) (shelf (turn .books) (turn .slots)) (turn .bills) (turn .store) (turn .store255) (turn .table) in
+    let found = c .before .before .before .before .before .before .before .before .before .before .before .before .before .before .before .before .record-in .result in
+    let told = c .before .before .before .before .before .before .before .before .before .before .before .before .before .before .before .before .record-in .ensures in
     let moved = c .before .before .before .before .before .before .before .before .before .step .result in
     let g = c .before .before .before .before .before .before .before .before .before .step .ensures (shelf (turn .books) (turn .slots)) (turn .bills) in
-    let x = c .before .before .before .before .before .before .before .before .before .before .before .before .before .found2 .given .0 .0 in
-    let size = c .before .before .before .before .before .before .before .before .before .before .before .before .before .found2 .given .0 .1 .0 in
-    let is = c .before .before .before .before .before .before .before .before .before .before .before .before .before .found2 .given .1 in
+    let x = c .before .before .before .before .before .before .before .before .before .before .before .before .before .before .found2 .given .0 .0 in
+    let size = c .before .before .before .before .before .before .before .before .before .before .before .before .before .before .found2 .given .0 .1 .0 in
+    let is = c .before .before .before .before .before .before .before .before .before .before .before .before .before .before .found2 .given .1 in
     let noted = c .before .before .before .written .result in
     let kept = ⊎-elim (λ w. w .1 ∙ in-slot (turn .slots) noted (w .0 .taken)) (λ w. w .1 ∙ no-slot (turn .slots) noted (w .0 .left)) (c .before .if1 .came) in
     let credited = ⊎-elim (λ w. w .2 ∙ w .1 .ensures) (λ w. w .1 ∙ no-bill _ _ (w .0 .left)) (c .if2 .came) in
@@ -185,7 +185,7 @@ loop-again c =
       inv .4,
       eq-le (inv .4),
       λ e. absurd (true≢false (sym e)),
-      gives _ _ (turn .i) (turn .cut) _ h (inv .1) (inv .6) found told d _ x size is (joins _ _ _ on credited ∙ g) (inv .7),
+      gives _ _ (turn .i) (turn .cut) _ h (inv .1) (inv .6) found told d _ x size is (joins _ _ _ _ on credited ∙ g) (inv .7),
     )
 
 reader-at-requires-2 : tie.Need-reader-at-requires-2 Inv-loop μ-loop
@@ -203,7 +203,7 @@ returns-3 : tie.Need-returns-3 Inv-loop μ-loop
 returns-3 c =
     let end = c .before .before .before .loop in
     let inv = end .inv in
-    let d = joined (end .run) (shelf (end .books) (end .slots)) (end .bills) (end .store) (end .store255) in
+    let d = joined (end .run) (shelf (end .books) (end .slots)) (end .bills) (end .store) (end .store255) (end .table) in
     c .rejoined2 .ensures ∙ ends-as _ _ (end .i) (c .before .reader-at2 .ensures) (c .before .before .loop-test .left) (inv .0) d (inv .7)
 
 pub through-spec : {M : Type 1} → statement M

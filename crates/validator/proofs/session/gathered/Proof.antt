@@ -20,7 +20,7 @@ read-requires-2 : tie.Need-read-requires-2
 read-requires-2 c κs = search needs
 
 returns-2 : tie.Need-returns-2
-returns-2 c = c .read2 .ensures ∙ ap found (sym (take-all (c .before .before .before .args .size) (c .before .before .before .args .store .now) (omega arith)))
+returns-2 c = c .read2 .ensures ∙ ap (found (c .before .before .before .args .code)) (sym (take-all (c .before .before .before .args .size) (c .before .before .before .args .store .now) (omega arith)))
 
 pub gathered-spec : {M : Type 1} → statement M
 gathered-spec =

@@ -33,6 +33,10 @@ returns-7 : tie.Need-returns-7
 unfolding isCommand
 returns-7 c = search tests
 
+returns-8 : tie.Need-returns-8
+unfolding isCommand
+returns-8 c = search tests
+
 pub is-command-spec : {M : Type 1} → statement M
 is-command-spec =
-    tie.close (tie.spec returns returns-2 returns-3 returns-4 returns-5 returns-6 returns-7)
+    tie.close (tie.spec returns returns-2 returns-3 returns-4 returns-5 returns-6 returns-7 returns-8)

@@ -1,6 +1,6 @@
 -- `validator::session::judge` meets its contract. Assumes nothing.
-use mathlib.Core.Path.{sym, _∙_}
-use Rattle.validator_rules.specs.Session.{judgeStep}
+use mathlib.Core.Path.{sym, ap, ap₂, _∙_}
+use Rattle.validator_rules.specs.Session.{LentAfter, heardAfter, judgeStep}
 use borrow.Author.Needs.{needs}
 use Rattle.validator.proofs.session.judge.Statement.{statement}
 use Rattle.validator.proofs.session.judge.Tie as tie
@@ -17,6 +17,9 @@ damaged-requires c κs = search needs
 enum-known-class : tie.Need-enum-known-class
 enum-known-class c = search needs
 
+keep-table-requires : tie.Need-keep-table-requires
+keep-table-requires c κs = search needs
+
 said-requires : tie.Need-said-requires
 said-requires c κs = search needs
 
@@ -25,14 +28,19 @@ same-length c = search needs
 
 returns : tie.Need-returns
 unfolding judgeStep
-returns c = simp (sym (c .before .before .before .before .before .before .before .gathered .ensures) ∙ c .before .before .before .before .before .enum-told .given .1) (c .before .before .damaged .ensures)
+returns c =
+    simp (sym (c .before .before .before .before .before .before .before .gathered .ensures) ∙ c .before .before .before .before .before .enum-told .given .1)
+    (ap (λ (w : LentAfter). heardAfter w (c .before .before .before .before .before .before .before .before .before .before .before .args .table .now)) (c .before .before .damaged .ensures))
 
 same-length-2 : tie.Need-same-length-2
 same-length-2 c = search needs
 
 returns-2 : tie.Need-returns-2
 unfolding judgeStep
-returns-2 c = simp (sym (c .before .before .before .before .before .before .before .before .gathered .ensures) ∙ c .before .before .before .before .before .before .class .given .1) (c .before .before .said .ensures)
+returns-2 c =
+    let start = c .before .before .before .before .before .before .before .before .before .before .before .before in
+    simp (sym (start .gathered .ensures) ∙ c .before .before .before .before .before .before .before .before .before .before .class .given .1)
+    (ap₂ heardAfter (c .before .before .said .ensures) (c .before .before .before .before .before .keep-table .ensures))
 
 pub judge-spec : {M : Type 1} → statement M
 judge-spec =
@@ -42,6 +50,7 @@ judge-spec =
     enum-told
     damaged-requires
     enum-known-class
+    keep-table-requires
     said-requires
     same-length
     returns

@@ -9,13 +9,13 @@ body-requires : tie.Need-body-requires
 body-requires c κs = search needs
 
 returns : tie.Need-returns
-returns c = read-bad (c .before .before .before .args .frame .now) (c .before .body .result .now) (c .before .body .ensures .bytes) (omega (arith, c .if1 .taken))
+returns c = read-bad (c .before .before .before .args .frame .now) (c .before .body .result .now) (c .before .body .ensures .bytes) (c .before .before .before .args .code) (omega (arith, c .if1 .taken))
 
-classify-requires : tie.Need-classify-requires
-classify-requires c κs = search needs
+class-to-requires : tie.Need-class-to-requires
+class-to-requires c κs = search needs
 
 returns-2 : tie.Need-returns-2
-returns-2 c = read-good (c .before .before .before .before .args .frame .now) (c .before .before .body .result .now) (c .before .before .body .ensures .bytes) (c .classify .result) (c .classify .ensures) (omega (arith, c .before .if1 .left))
+returns-2 c = read-good (c .before .before .before .before .args .frame .now) (c .before .before .body .result .now) (c .before .before .body .ensures .bytes) (c .before .before .before .before .args .code) (c .class-to .result) (c .class-to .ensures) (omega (arith, c .before .if1 .left))
 
 pub read-spec : {M : Type 1} → statement M
-read-spec = tie.close (tie.spec body-requires returns classify-requires returns-2)
+read-spec = tie.close (tie.spec body-requires returns class-to-requires returns-2)

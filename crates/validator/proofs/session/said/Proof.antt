@@ -1,6 +1,6 @@
 -- `validator::session::said` meets its contract, class by class. Assumes nothing.
 use mathlib.Core.Path.{sym, _∙_}
-use Rattle.validator.proofs.Deeds.{other-class}
+use Rattle.validator.proofs.Deeds.{replies, other-class}
 use borrow.Author.Needs.{needs}
 use Rattle.validator.proofs.session.said.Statement.{statement}
 use Rattle.validator.proofs.session.said.Tie as tie
@@ -40,7 +40,7 @@ same-length c = search needs
 
 returns-4 : tie.Need-returns-4
 returns-4 c = let s = c .before .before .before .before .before .before .before .args in
-    c .before .before .answered .ensures ∙ sym (other-class (s .class) (c .before .before .before .before .before .match .keys4) (s .line) (s .room .now))
+    c .before .before .answered .ensures ∙ sym (other-class (s .class) (replies (s .class) (c .before .before .before .before .before .match .keys4)) (s .line) (s .room .now))
 
 pub said-spec : {M : Type 1} → statement M
 said-spec =

@@ -1,6 +1,7 @@
 -- `validator::session::step_byte` meets its contract, deed by deed. Assumes nothing.
+use mathlib.Core.Path.{ap}
 use borrow.Author.Tests.{lt-ltb, le-ltb}
-use Rattle.validator_rules.specs.Session.{byteStep, byteRefusals}
+use Rattle.validator_rules.specs.Session.{LentAfter, heardAfter, byteStep, byteRefusals}
 use borrow.Author.Needs.{needs}
 use Rattle.validator.proofs.session.step_byte.Statement.{statement}
 use Rattle.validator.proofs.session.step_byte.Tie as tie
@@ -58,14 +59,14 @@ same-length c = search needs
 
 returns-4 : tie.Need-returns-4
 unfolding byteStep byteRefusals
-returns-4 c = simp (le-ltb _ _ (c .before .before .before .before .before .before .before .before .before .before .before .if1 .left), ← c .before .before .before .before .before .before .before .before .before .before .heard .ensures, c .before .before .before .before .before .before .before .enum-told3 .given .1, ← c .before .before .before .before .before .keep2 .ensures) (c .before .before .judge .ensures)
+returns-4 c = simp (le-ltb _ _ (c .before .before .before .before .before .before .before .before .before .before .before .before .if1 .left), ← c .before .before .before .before .before .before .before .before .before .before .before .heard .ensures, c .before .before .before .before .before .before .before .before .enum-told3 .given .1, ← c .before .before .before .before .before .before .keep2 .ensures) (c .before .before .judge .ensures)
 
 same-length-2 : tie.Need-same-length-2
 same-length-2 c = search needs
 
 returns-5 : tie.Need-returns-5
 unfolding byteStep byteRefusals
-returns-5 c = simp (le-ltb _ _ (c .before .before .before .before .before .before .before .before .before .if1 .left), ← c .before .before .before .before .before .before .before .before .heard .ensures, c .before .before .before .before .before .enum-told4 .given .1) (c .before .before .damaged .ensures)
+returns-5 c = simp (le-ltb _ _ (c .before .before .before .before .before .before .before .before .before .if1 .left), ← c .before .before .before .before .before .before .before .before .heard .ensures, c .before .before .before .before .before .enum-told4 .given .1) (ap (λ (w : LentAfter). heardAfter w (c .before .before .before .before .before .before .before .before .before .before .before .args .table .now)) (c .before .before .damaged .ensures))
 
 pub step-byte-spec : {M : Type 1} → statement M
 step-byte-spec =

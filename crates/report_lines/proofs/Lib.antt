@@ -1,0 +1,3 @@
+-- What the proofs of `report_lines` share.
+pub mod Adding
+pub mod Lines

@@ -1,0 +1,4 @@
+-- What the contracts of `report_lines` cite.
+pub mod Text
+pub mod Lines
+pub mod Scaffolding

@@ -1,0 +1,2 @@
+-- The laws of `validator_line`.
+pub mod Tied
