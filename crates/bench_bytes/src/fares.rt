@@ -30,18 +30,46 @@ const STACKED: u8 = 41;
 const RETURNED: u8 = 42;
 
 // The fares above are taken, those below and 01's numbers are not.
-const ACK: u8 = 64;
+const ACK: u8 = 43;
 
-const NAK: u8 = 65;
+const NAK: u8 = 44;
 
-const ILLEGAL: u8 = 66;
+const ILLEGAL: u8 = 45;
 
-const UNKNOWN: u8 = 67;
+const UNKNOWN: u8 = 46;
 
 // What sends and what can be sent differ, or a class carries another byte than the body's last.
-const ODD: u8 = 68;
+const ODD: u8 = 47;
 
-pub(crate) fn of_command(s: &[u8]) -> u8 {
+// No byte: what stands behind the last.
+pub(crate) const PAST: u8 = 48;
+
+// Is this kind a frame of the dispenser's?
+pub(crate) fn is_dispenser(kind: u8) -> bool {
+    if kind == b'c' {
+        return true;
+    }
+    kind == b'a'
+}
+
+// What is given, by its kind.
+pub(crate) fn of(kind: u8, s: &[u8]) -> u8 {
+    if kind == b'c' {
+        return of_command(s);
+    }
+    if kind == b'a' {
+        return of_answer(s);
+    }
+    if kind == b'f' {
+        return of_frame(s);
+    }
+    if kind == b'r' {
+        return of_request(s);
+    }
+    of_body(s, last_of(s))
+}
+
+fn of_command(s: &[u8]) -> u8 {
     match dispenser_frame::read_command(s) {
         CommandRead::Read {
             code: _,
@@ -52,7 +80,7 @@ pub(crate) fn of_command(s: &[u8]) -> u8 {
     }
 }
 
-pub(crate) fn of_answer(s: &[u8]) -> u8 {
+fn of_answer(s: &[u8]) -> u8 {
     match dispenser_frame::read_answer(s) {
         AnswerRead::Read { answer: _, class } => of_error(class),
         AnswerRead::Refused(why) => why.number(),
@@ -66,7 +94,7 @@ fn of_error(class: ErrorClass) -> u8 {
     }
 }
 
-pub(crate) fn of_frame(s: &[u8]) -> u8 {
+fn of_frame(s: &[u8]) -> u8 {
     match ccnet_frame::judge(s) {
         Judged::Good { address: _ } => READ,
         Judged::Refused(why) => why.number(),
@@ -74,7 +102,7 @@ pub(crate) fn of_frame(s: &[u8]) -> u8 {
 }
 
 // Of a code and two counts.
-pub(crate) fn of_request(s: &[u8]) -> u8 {
+fn of_request(s: &[u8]) -> u8 {
     if s.len() < 3 {
         return ODD;
     }
@@ -102,31 +130,35 @@ fn same(fare: u8, wanted: u8) -> u8 {
     if fare == wanted { fare } else { ODD }
 }
 
-pub(crate) fn of_body(s: &[u8]) -> u8 {
+// The last byte; 0 where there is none.
+fn last_of(s: &[u8]) -> u8 {
+    let n = s.len();
+    if n == 0 {
+        return 0;
+    }
+    s[n - 1]
+}
+
+// A class carries the body's last byte. No body by itself is a bill table.
+fn of_body(s: &[u8], last: u8) -> u8 {
     match ccnet_frame::classify(s) {
         Class::Ack => ACK,
         Class::Nak => NAK,
         Class::Illegal => ILLEGAL,
-        Class::State(b) => carried(STATE, b, s),
-        Class::Busy(b) => carried(BUSY, b, s),
-        Class::Rejecting(b) => carried(REJECTING, b, s),
-        Class::Failing(b) => carried(FAILING, b, s),
-        Class::Escrow(b) => carried(ESCROW, b, s),
-        Class::Stacked(b) => carried(STACKED, b, s),
-        Class::Returned(b) => carried(RETURNED, b, s),
+        Class::State(b) => carried(STATE, b, last),
+        Class::Busy(b) => carried(BUSY, b, last),
+        Class::Rejecting(b) => carried(REJECTING, b, last),
+        Class::Failing(b) => carried(FAILING, b, last),
+        Class::Escrow(b) => carried(ESCROW, b, last),
+        Class::Stacked(b) => carried(STACKED, b, last),
+        Class::Returned(b) => carried(RETURNED, b, last),
         Class::Unknown => UNKNOWN,
-        // No body by itself is a bill table.
         Class::Table => ODD,
     }
 }
 
-// A class carries the body's last byte.
-fn carried(fare: u8, b: u8, s: &[u8]) -> u8 {
-    let n = s.len();
-    if n == 0 {
-        return ODD;
-    }
-    if s[n - 1] == b { fare } else { ODD }
+fn carried(fare: u8, b: u8, last: u8) -> u8 {
+    if b == last { fare } else { ODD }
 }
 
 // 1 for a byte that is taken: read, sent, or part of a listed poll answer.
@@ -141,77 +173,12 @@ pub(crate) fn taken(fare: u8) -> u32
 
 pub(crate) fn print(fare: u8) {
     if fare < READ {
-        sheet::print_form(b" refused #", &[fare as u32]);
+        sheet::print_form(b" refused #;", &[fare as u32]);
         return;
     }
-    if fare < STATE {
-        print_frame(fare);
-        return;
-    }
-    if fare < ACK {
-        print_listed(fare);
-        return;
-    }
-    print_other(fare);
-}
-
-fn print_frame(fare: u8) {
-    if fare == READ {
-        sheet::print_text(b" read");
-    }
-    if fare == LISTED {
-        sheet::print_text(b" read, error listed");
-    }
-    if fare == UNLISTED {
-        sheet::print_text(b" read, error unlisted");
-    }
-    if fare == SENT {
-        sheet::print_text(b" sent");
-    }
-}
-
-fn print_listed(fare: u8) {
-    if fare == STATE {
-        sheet::print_text(b" state");
-    }
-    if fare == BUSY {
-        sheet::print_text(b" busy");
-    }
-    if fare == REJECTING {
-        sheet::print_text(b" rejecting");
-    }
-    if fare == FAILING {
-        sheet::print_text(b" failing");
-    }
-    print_bill(fare);
-}
-
-fn print_bill(fare: u8) {
-    if fare == ESCROW {
-        sheet::print_text(b" escrow");
-    }
-    if fare == STACKED {
-        sheet::print_text(b" stacked");
-    }
-    if fare == RETURNED {
-        sheet::print_text(b" returned");
-    }
-}
-
-fn print_other(fare: u8) {
-    if fare == ACK {
-        sheet::print_text(b" ACK");
-    }
-    if fare == NAK {
-        sheet::print_text(b" NAK");
-    }
-    if fare == ILLEGAL {
-        sheet::print_text(b" illegal command");
-    }
-    if fare == UNKNOWN {
-        sheet::print_text(b" unknown");
-    }
-    if fare == ODD {
-        sheet::print_text(b" AT ODDS");
-    }
+    sheet::print_one(
+        b" read;| read, error listed;| read, error unlisted;| sent;| state;| busy;| rejecting;| failing;| escrow;| stacked;| returned;| ACK;| NAK;| illegal command;| unknown;| AT ODDS;|",
+        (fare - READ) as usize,
+        &[],
+    );
 }

@@ -1,9 +1,8 @@
 // The bench sheet, the lines that try all 256 bytes at one place. A line of the file `stdin` that begins with each, turn or check is tried, and
 // written with what came of it; any other line is written as it stands. The file `stdout` has what the run must write, made from document 01 and not
 // from a run.
-mod bit_lines;
-mod byte_lines;
 mod fares;
+mod lines;
 
 fn main() {
     let mut store = io::large_buffer();
@@ -21,20 +20,16 @@ fn each(all: &[u8]) {
     }
 }
 
-// One line, by its verb.
+// A line is tried by its verb.
 fn one(line: &[u8]) {
     let verb = sheet::letter(line, 0);
-    if verb == b'e' {
-        byte_lines::run(line);
+    if !lines::is_tried(verb) {
+        sheet::print_text(line);
         return;
     }
-    if verb == b't' {
-        bit_lines::run(line);
-        return;
-    }
-    if verb == b'c' {
-        byte_lines::check(line);
-        return;
-    }
-    sheet::print_text(line);
+    sheet::print_line(line);
+    sheet::print_text(b" ->");
+    let mut store = [0u8; 32];
+    let n = sheet::frame(line, &mut store);
+    lines::run(verb, line, &mut store[0..n]);
 }

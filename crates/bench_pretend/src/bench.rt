@@ -3,35 +3,28 @@ use dispenser_rules::Session;
 use exchange_rules::Sums;
 use pretend_rules::Device;
 use pretend_rules::Tally;
-use sheet::print_form;
-use sheet::print_text;
 
 pub(crate) fn show(host: Session, device: Device) {
-    let account = host.account;
-    let tallies = device.tallies;
-    let cassettes = account.cassettes;
-    let upper = cassettes.upper;
-    let lower = cassettes.lower;
-    let device_upper = tallies.upper;
-    let device_lower = tallies.lower;
-    show_sums(b"host upper", upper);
-    show_sums(b"host lower", lower);
-    show_tally(b"device upper", device_upper);
-    show_tally(b"device lower", device_lower);
-    let line = host.line;
-    let wire = device.wire;
-    show_one(
-        exchange::line::is_open(line),
-        b"host open, ",
-        b"host idle, ",
+    sums(b"host upper", host.account.cassettes.upper);
+    sums(b"host lower", host.account.cassettes.lower);
+    tally(b"device upper", device.tallies.upper);
+    tally(b"device lower", device.tallies.lower);
+    told(
+        b"host idle, |host open, |",
+        exchange::line::is_open(host.line),
     );
-    show_one(pretend::is_busy(wire), b"device busy: ", b"device idle: ");
-    show_agreed(same(upper, device_upper), same(lower, device_lower));
+    told(
+        b"device idle: |device busy: |",
+        pretend::is_busy(device.wire),
+    );
+    let upper = same(host.account.cassettes.upper, device.tallies.upper);
+    let lower = same(host.account.cassettes.lower, device.tallies.lower);
+    told(b"differ\n|agree\n|", xor_frame::both(upper, lower));
 }
 
-fn show_sums(name: &[u8], s: Sums) {
-    print_text(name);
-    print_form(
+fn sums(name: &[u8], s: Sums) {
+    sheet::print_text(name);
+    sheet::print_form(
         b" asked # paid # short # over # refused # unknown # open # rejected #\n",
         &[
             s.asked.0,
@@ -46,25 +39,18 @@ fn show_sums(name: &[u8], s: Sums) {
     );
 }
 
-fn show_tally(name: &[u8], t: Tally) {
-    print_text(name);
-    print_form(b" paid # rejected #\n", &[t.paid.0, t.rejected.0]);
+fn tally(name: &[u8], t: Tally) {
+    sheet::print_text(name);
+    sheet::print_form(b" paid # rejected #\n", &[t.paid.0, t.rejected.0]);
 }
 
-fn show_one(is: bool, yes: &[u8], no: &[u8]) {
+// The first of two texts where it is not so, the second where it is.
+fn told(texts: &[u8], is: bool) {
     if is {
-        print_text(yes);
+        sheet::print_one(texts, 1, &[]);
         return;
     }
-    print_text(no);
-}
-
-fn show_agreed(upper: bool, lower: bool) {
-    if upper {
-        show_one(lower, b"agree\n", b"differ\n");
-        return;
-    }
-    print_text(b"differ\n");
+    sheet::print_one(texts, 0, &[]);
 }
 
 // Do both ends say the same of a cassette?

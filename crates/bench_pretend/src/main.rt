@@ -2,11 +2,15 @@
 // with run, a list of moves, it writes what came of each call, and then both accounts; any other line it writes as it stands. The file `stdout` has what the run must write;
 // the second implementation holds it to documents 01 and 02 (cross/tests/bench_pretend.rs).
 mod bench;
+mod device;
+mod host;
 mod moves;
-mod words;
+mod way;
 
+use dispenser_rules::Session;
 use libc::STDERR_FILENO;
 use libc::STDIN_FILENO;
+use pretend_rules::Device;
 
 // One byte more than a sheet may have, so that one that is too long shows.
 const ROOM: usize = 262_145;
@@ -36,10 +40,29 @@ fn each(all: &[u8]) {
     }
 }
 
+// A line that begins with run is one: the device's way up and the host's way down, and its moves.
 fn one(line: &[u8]) {
-    if words::is_run(line) {
-        moves::run(line);
+    if !moves::is_run(line) {
+        sheet::print_text(line);
         return;
     }
-    sheet::print_text(line);
+    let mut up = [0usize; way::LENGTH];
+    let mut down = [0usize; way::LENGTH];
+    up[way::ROOM] = Device::ROOM;
+    down[way::ROOM] = Session::ROOM;
+    run(line, &mut up, &mut down);
+}
+
+// Every word behind the first, in turn; then what both accounts say.
+fn run(line: &[u8], up: &mut [usize], down: &mut [usize]) {
+    let mut session = Session::fresh();
+    let mut device = Device::fresh();
+    let mut at = sheet::past(line, 0, b' ');
+    while at < line.len() {
+        let end = sheet::past(line, at, b' ');
+        session = host::moved(&line[at..end], session, up, down);
+        device = device::moved(&line[at..end], device, down, up);
+        at = end;
+    }
+    bench::show(session, device);
 }

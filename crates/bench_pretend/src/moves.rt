@@ -4,53 +4,147 @@
 //
 // The first letter of a word is the end, the second what happens there: a asked, c cleared, w so many milliseconds pass, h the next bytes on their way arrive, l they are lost, x a byte
 // arrives that nobody sent, r so much room is lent from now on, t told an answer's fields, m so many exchanges with the device alone.
-use crate::bench;
-use crate::words;
-use sheet_device::End;
-use sheet_host::Host;
+use crate::way;
+use dispenser_frame_rules::Answer;
+use dispenser_frame_rules::Cassette;
 
-// Both ends.
-struct Ends {
-    host: Host,
-    device: End,
-}
-
-pub(crate) fn run(line: &[u8]) {
-    let mut up = [0u8; sheet_moves::MOST];
-    let mut down = [0u8; sheet_moves::MOST];
-    let start = Ends {
-        host: sheet_host::fresh(),
-        device: sheet_device::fresh(),
-    };
-    let last = each(line, start, &mut up, &mut down);
-    let host = last.host;
-    let end = last.device;
-    bench::show(host.session, end.device);
-}
-
-// Every word of a line behind its first, in turn.
-fn each(line: &[u8], start: Ends, up: &mut [u8], down: &mut [u8]) -> Ends {
-    let mut now = start;
-    let mut at = words::word_end(line, 0) + 1;
-    while at < line.len() {
-        let end = words::word_end(line, at);
-        let past = end + 1;
-        now = one(&line[at..end], now, up, down);
-        at = past;
+// Does the line begin with run?
+pub(crate) fn is_run(line: &[u8]) -> bool {
+    if line.len() < 3 {
+        return false;
     }
-    now
+    if line[0] != b'r' {
+        return false;
+    }
+    if line[1] != b'u' {
+        return false;
+    }
+    line[2] == b'n'
 }
 
-fn one(word: &[u8], now: Ends, up: &mut [u8], down: &mut [u8]) -> Ends {
+// What happens in a word, where it is this end's; else 0.
+pub(crate) fn what(end: u8, word: &[u8]) -> u8 {
     if word.len() < 2 {
-        return now;
+        return 0;
     }
-    let host = now.host;
-    let device = now.device;
-    if word[0] == b'h' {
-        let next = sheet_host::moved(word[1], &word[2..], host, device.put, up, down);
-        return Ends { host: next, device };
+    if word[0] == end {
+        return word[1];
     }
-    let next = sheet_device::moved(word[1], &word[2..], device, host.put, down, up);
-    Ends { host, device: next }
+    0
+}
+
+// Where the value stands that has so many before it.
+fn place(word: &[u8], before: usize) -> usize {
+    if before == 0 {
+        return 2;
+    }
+    sheet::part(word, before, b',')
+}
+
+pub(crate) fn number(word: &[u8], before: usize) -> u32 {
+    sheet::number_at(word, place(word, before))
+}
+
+pub(crate) fn byte(word: &[u8], before: usize) -> u8 {
+    sheet::byte_at(word, place(word, before))
+}
+
+// How often, as a place says; once where it says nothing.
+fn times(word: &[u8], at: usize) -> u32 {
+    if at < word.len() {
+        if b'0' <= word[at] {
+            return sheet::number_at(word, at);
+        }
+    }
+    1
+}
+
+// How many calls a move makes at the end that hears one way and puts on the other. A move that is no call is made at once.
+pub(crate) fn calls(what: u8, word: &[u8], hears: &mut [usize], puts: &mut [usize]) -> u32 {
+    if what == b'h' {
+        return way::ahead(hears, times(word, 2));
+    }
+    if what == b'w' {
+        return times(word, sheet::part(word, 1, b'x'));
+    }
+    if what == b'l' {
+        way::lose(hears, times(word, 2));
+        return 0;
+    }
+    if what == b'r' {
+        way::lend(puts, number(word, 0));
+        return 0;
+    }
+    if what == b'm' {
+        return number(word, 0) % 100_000_000 * PURGE;
+    }
+    if what == 0 { 0 } else { 1 }
+}
+
+// The calls of an exchange with the device alone: a purge arrives, its answer is told, and 06h arrives.
+pub(crate) const PURGE: u32 = 8;
+
+// The answer that a telling gives: its code, and its fields in 01's order without the fixed bytes.
+pub(crate) fn answer(word: &[u8]) -> Answer {
+    let code = byte(word, 0);
+    if code == 0x45 {
+        return paid_one(word, Cassette::Upper);
+    }
+    if code == 0x55 {
+        return paid_one(word, Cassette::Lower);
+    }
+    if code == 0x56 {
+        return paid_both(word);
+    }
+    if code == 0x76 {
+        return tested(word, Cassette::Upper);
+    }
+    if code == 0x77 {
+        return tested(word, Cassette::Lower);
+    }
+    if code == 0x46 {
+        return Answer::Status {
+            error: byte(word, 1),
+            sensor0: byte(word, 2),
+            sensor1: byte(word, 3),
+        };
+    }
+    Answer::Purged {
+        error: byte(word, 1),
+    }
+}
+
+fn paid_one(word: &[u8], cassette: Cassette) -> Answer {
+    Answer::PaidOne {
+        cassette,
+        chk: number(word, 1),
+        exit: number(word, 2),
+        error: byte(word, 3),
+        state: byte(word, 4),
+        rejects: number(word, 5),
+    }
+}
+
+fn paid_both(word: &[u8]) -> Answer {
+    Answer::PaidBoth {
+        upper_chk: number(word, 1),
+        upper_exit: number(word, 2),
+        lower_chk: number(word, 3),
+        lower_exit: number(word, 4),
+        error: byte(word, 5),
+        upper_state: byte(word, 6),
+        lower_state: byte(word, 7),
+        upper_rejects: number(word, 8),
+        lower_rejects: number(word, 9),
+    }
+}
+
+fn tested(word: &[u8], cassette: Cassette) -> Answer {
+    Answer::Tested {
+        cassette,
+        chk: number(word, 1),
+        error: byte(word, 2),
+        state: byte(word, 3),
+        rejects: number(word, 4),
+    }
 }

@@ -1,9 +1,13 @@
-// The lines of the bench sheet that a dispenser session takes, run. A line of the file `stdin` that begins with session is a call or calls, and
-// is written with what came of it; any other line is written as it stands. The file `stdout` has what the run must write, made from
+// The lines of the bench sheet that a dispenser session takes, run. A line of the file `stdin` that begins with session is so many calls, and
+// is written with what came of them; any other line is written as it stands. The file `stdout` has what the run must write, made from
 // documents 01 and 02 and not from a run.
+ghost use Prim.Native.Nat.{_≤_};
+use calls::Call;
+use dispenser_rules::Outcome;
 use dispenser_rules::Session;
 
-mod session_lines;
+mod calls;
+mod show;
 
 fn main() {
     let mut store = io::large_buffer();
@@ -11,21 +15,60 @@ fn main() {
     each(&store[..n]);
 }
 
-// Every line of a sheet, in turn.
+// Every line of a sheet, in turn. One session goes through them all, from one start to the next.
 fn each(all: &[u8]) {
     let mut session = Session::fresh();
     let mut at: usize = 0;
     while at < all.len() {
         let end = sheet::line_end(all, at);
-        session = one(&all[at..end], session);
+        session = run(&all[at..end], session);
         at = end;
     }
 }
 
-fn one(line: &[u8], session: Session) -> Session {
-    if sheet::letter(line, 0) == b's' {
-        return session_lines::run(line, session);
+// Every call of a line, in turn.
+fn run(line: &[u8], session: Session) -> Session {
+    let kind = calls::kind(line);
+    let calls = calls::count(kind, line);
+    let size = sheet::size(line, 24);
+    let mut now = begun(kind, session);
+    let mut k: u64 = 0;
+    while k < calls {
+        now = one(kind, calls::nth(kind, line, k), size, now);
+        k += 1;
     }
-    sheet::print_text(line);
+    now
+}
+
+// What a line begins with: a fresh session, or the account printed.
+fn begun(kind: u8, session: Session) -> Session {
+    if kind == b's' {
+        return Session::fresh();
+    }
+    if kind == b'a' {
+        show::account(session);
+    }
     session
+}
+
+// Makes a call, and shows what it answered.
+fn one(kind: u8, call: Call, size: usize, session: Session) -> Session
+    requires { ⌜ size ≤ 24 ⌝ }
+{
+    let mut lent = sheet::short_room();
+    let outcome = made(call, session, &mut lent[0..size]);
+    let reply = outcome.reply;
+    show::reply(kind, reply, &lent);
+    outcome.session
+}
+
+fn made(call: Call, session: Session, lent: &mut [u8]) -> Outcome {
+    match call {
+        Call::Request { code, upper, lower } => {
+            return dispenser::request(session, code, upper, lower, lent);
+        }
+        Call::Byte(b) => return dispenser::byte(session, b, lent),
+        Call::Tick(ms) => return dispenser::tick(session, ms, lent),
+        Call::Clear => return dispenser::clear(session),
+    }
 }

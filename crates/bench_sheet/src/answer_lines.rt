@@ -13,7 +13,6 @@ use dispenser_frame_rules::Answer;
 use dispenser_frame_rules::AnswerRead;
 use dispenser_frame_rules::Cassette;
 use error_codes::ErrorClass;
-use refusals::Put;
 
 // The answer that a line gives, with its fields in 01's order.
 pub(crate) fn given(line: &[u8]) -> Answer {
@@ -78,11 +77,6 @@ fn tested(line: &[u8], cassette: Cassette) -> Answer {
         state: sheet::byte(line, 10),
         rejects: sheet::number(line, 12),
     }
-}
-
-// Writes the answer that a line gives.
-pub(crate) fn put(line: &[u8], room: &mut [u8]) -> Put {
-    dispenser_frame::write_answer(given(line), room)
 }
 
 // What reading an answer finds.

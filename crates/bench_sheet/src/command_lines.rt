@@ -5,20 +5,6 @@
 use dispenser_frame_rules::CommandRead;
 use refusals::Put;
 
-// A command's code and counts.
-fn show(code: u8, upper: u32, lower: u32) {
-    sheet::print_form(b" $ upper # lower #", &[code as u32, upper, lower]);
-}
-
-// Those that a line gives.
-pub(crate) fn show_given(line: &[u8]) {
-    show(
-        sheet::byte(line, 4),
-        sheet::number(line, 6),
-        sheet::number(line, 8),
-    );
-}
-
 // Writes the command that a line gives.
 pub(crate) fn put(line: &[u8], room: &mut [u8]) -> Put {
     let code = sheet::byte(line, 4);
@@ -27,14 +13,13 @@ pub(crate) fn put(line: &[u8], room: &mut [u8]) -> Put {
     dispenser_frame::write_command(code, upper, lower, room)
 }
 
-// What reading a command finds.
+// What reading a command finds: its code and counts.
 pub(crate) fn found(s: &[u8]) {
     match dispenser_frame::read_command(s) {
-        CommandRead::Read { code, upper, lower } => {
-            sheet::print_text(b" reads as");
-            show(code, upper, lower);
-            sheet::print_text(b"\n");
-        }
+        CommandRead::Read { code, upper, lower } => sheet::print_form(
+            b" reads as $ upper # lower #\n",
+            &[code as u32, upper, lower],
+        ),
         CommandRead::Refused(why) => sheet::print_fault(why.number()),
     }
 }

@@ -26,23 +26,21 @@ fn each(all: &[u8]) {
     }
 }
 
-// One line, by its verb.
+// One line, by what it tries.
 fn one(line: &[u8]) {
     let verb = sheet::letter(line, 0);
-    if verb == b'w' {
-        lines::write(line);
+    let kind = lines::kind(verb, line);
+    let tries = lines::tries(verb, kind);
+    if tries == b'w' {
+        lines::write(kind, line);
         return;
     }
-    if verb == b'r' {
-        lines::read(line);
+    if tries == b'r' {
+        lines::read(kind, line);
         return;
     }
-    if verb == b'c' {
-        lines::count(line);
-        return;
-    }
-    if verb == b'v' {
-        ccnet_lines::run(line);
+    if tries == b'c' {
+        lines::count(kind, line);
         return;
     }
     sheet::print_text(line);

@@ -9,15 +9,31 @@ use numbers::Number;
 use numbers::Seven;
 use refusals::Put;
 
-// The digits of a count fill their room.
-pub(crate) fn put_digits(n: u32, room: &mut [u8]) -> Put {
+// Writes a number. The digits of a count fill their room.
+pub(crate) fn put(kind: u8, n: u32, room: &mut [u8]) -> Put {
+    if kind == b'g' {
+        return numbers::write_groups(n, room);
+    }
+    if kind == b'd' {
+        return numbers::write_decimal(n as u64, room);
+    }
     numbers::put_digits(n as u64, room);
     Put::Bytes(room.len())
 }
 
-// What reading a number in groups of seven bits finds.
-pub(crate) fn groups(s: &[u8]) {
-    let found = numbers::read_groups(s);
+// What reading a number finds, in groups of seven bits or in digits.
+pub(crate) fn found(kind: u8, s: &[u8]) {
+    if kind == b'g' {
+        groups(numbers::read_groups(s));
+        return;
+    }
+    match numbers::read_digits(s) {
+        Number::Of(n) => sheet::print_form(b" reads as #\n", &[n]),
+        Number::NoNumber => sheet::print_text(b" no number\n"),
+    }
+}
+
+fn groups(found: Seven) {
     match found {
         Seven::Value { value, used } => {
             sheet::print_form(b" reads as #, length ", &[value]);
@@ -25,13 +41,5 @@ pub(crate) fn groups(s: &[u8]) {
             sheet::print_text(b"\n");
         }
         _ => sheet::print_fault(found.number()),
-    }
-}
-
-// What reading digits finds.
-pub(crate) fn digits(s: &[u8]) {
-    match numbers::read_digits(s) {
-        Number::Of(n) => sheet::print_form(b" reads as #\n", &[n]),
-        Number::NoNumber => sheet::print_text(b" no number\n"),
     }
 }

@@ -12,56 +12,48 @@ use refusals::Put;
 use vcdm_frame_rules::AnswerRead;
 use vcdm_frame_rules::CommandRead;
 
-// Writes what the line gives to a room of the size that it gives.
-pub(crate) fn write(line: &[u8]) {
-    sheet::print_label(line);
-    let mut lent = words::room();
-    write_in(line, &mut lent);
+// A line by its verb.
+pub(crate) fn run(line: &[u8]) {
+    let verb = sheet::letter(line, 0);
+    if verb == b'w' {
+        let mut lent = words::room();
+        write(line, &mut lent);
+        return;
+    }
+    if verb == b'r' {
+        read(line);
+        return;
+    }
+    sheet::print_text(line);
 }
 
-fn write_in(line: &[u8], lent: &mut [u8]) {
-    let end = sheet::at_most(sheet::number(line, 3) as usize, lent);
+// Writes what the line gives to a room of the size that it gives.
+fn write(line: &[u8], lent: &mut [u8]) {
+    sheet::print_line(line);
+    let end = sheet::size(line, lent.len());
     let put = put_frame(line, &mut lent[0..end]);
     let n = sheet::print_put(put, lent);
-    read_back(line, n, lent);
+    if 0 < n {
+        sheet::print_text(b"   ");
+        found(line, &lent[0..n]);
+    }
 }
 
 fn put_frame(line: &[u8], lent: &mut [u8]) -> Put {
     if sheet::letter(line, 1) == b'c' {
-        let code = sheet::byte(line, 4);
         let counts = words::counts(line, 6);
-        let serial = sheet::byte(line, 11);
-        show::command(code, counts, serial);
-        return vcdm_frame::write_command(code, counts, serial, lent);
+        return vcdm_frame::write_command(sheet::byte(line, 4), counts, sheet::byte(line, 11), lent);
     }
-    let answer = words::answer(line);
-    show::answer(answer);
-    vcdm_frame::write_answer(answer, lent)
-}
-
-// What was put, if anything.
-fn read_back(line: &[u8], n: usize, lent: &[u8]) {
-    if n == 0 {
-        return;
-    }
-    let end = sheet::at_most(n, lent);
-    sheet::print_text(b"   ");
-    found(line, &lent[0..end]);
+    vcdm_frame::write_answer(words::answer(line), lent)
 }
 
 // Reads the frame behind the line's colon.
-pub(crate) fn read(line: &[u8]) {
-    sheet::print_label(line);
+fn read(line: &[u8]) {
+    sheet::print_line(line);
+    sheet::print_text(b" ->");
     let mut store = [0u8; 64];
     let n = sheet::frame(line, &mut store);
-    read_in(line, n, &store);
-}
-
-fn read_in(line: &[u8], n: usize, store: &[u8]) {
-    let end = sheet::at_most(n, store);
-    sheet::print_bytes(&store[0..end]);
-    sheet::print_text(b" ->");
-    found(line, &store[0..end]);
+    found(line, &store[0..n]);
 }
 
 fn found(line: &[u8], s: &[u8]) {
@@ -78,11 +70,7 @@ fn found_command(s: &[u8]) {
             code,
             counts,
             serial,
-        } => {
-            sheet::print_text(b" reads as");
-            show::command(code, counts, serial);
-            sheet::print_text(b"\n");
-        }
+        } => show::command(code, counts, serial),
         CommandRead::Refused(why) => sheet::print_fault(why.number()),
     }
 }
@@ -92,7 +80,6 @@ fn found_answer(s: &[u8]) {
         AnswerRead::Read(answer) => {
             sheet::print_text(b" reads as");
             show::answer(answer);
-            sheet::print_text(b"\n");
         }
         AnswerRead::Refused(why) => sheet::print_fault(why.number()),
     }

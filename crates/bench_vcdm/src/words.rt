@@ -42,18 +42,15 @@ pub(crate) fn answer(line: &[u8]) -> Answer {
     if code == 0x50 {
         return status(line);
     }
-    if code == 0x51 {
-        return purged(line);
-    }
-    if code == 0x52 {
-        return dispensed(line);
-    }
     if code == 0x55 {
         return last(line);
     }
-    Answer::Reset {
-        error: sheet::byte(line, 6),
+    if code == 0x44 {
+        return Answer::Reset {
+            error: sheet::byte(line, 6),
+        };
     }
+    paid_or_purged(code, line)
 }
 
 fn status(line: &[u8]) -> Answer {
@@ -86,23 +83,22 @@ fn place(line: &[u8], at: usize) -> Place
     }
 }
 
-fn purged(line: &[u8]) -> Answer {
+fn paid_or_purged(code: u8, line: &[u8]) -> Answer {
+    let error = sheet::byte(line, 6);
+    let second = sheet::byte(line, 8);
     let cassettes = cassettes(line, 11);
     let spare = spare(line, 38);
-    Answer::Purged {
-        error: sheet::byte(line, 6),
-        miss: sheet::byte(line, 8),
-        cassettes,
-        spare,
+    if code == 0x51 {
+        return Answer::Purged {
+            error,
+            miss: second,
+            cassettes,
+            spare,
+        };
     }
-}
-
-fn dispensed(line: &[u8]) -> Answer {
-    let cassettes = cassettes(line, 11);
-    let spare = spare(line, 38);
     Answer::Dispensed {
-        error: sheet::byte(line, 6),
-        serial: sheet::byte(line, 8),
+        error,
+        serial: second,
         cassettes,
         spare,
     }

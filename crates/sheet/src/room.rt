@@ -31,14 +31,18 @@ pub fn at_most(n: usize, room: &[u8]) -> usize
 }
 
 // What a plain writer answered, the bytes that it put, and whether every other byte of the room is what it was. Says how many bytes it put.
-pub fn print_put(put: Put, room: &[u8]) -> usize {
+pub fn print_put(put: Put, room: &[u8]) -> usize
+    ensures { λ r. ⌜ r ≤ length (now (room .entry)) ⌝ }
+{
     match put {
         Put::Bytes(n) => print_laid(n, room),
         Put::Refused(why) => print_refused(why.number(), room),
     }
 }
 
-fn print_laid(n: usize, room: &[u8]) -> usize {
+fn print_laid(n: usize, room: &[u8]) -> usize
+    ensures { λ r. ⌜ r ≤ length (now (room .entry)) ⌝ }
+{
     print::print_text(b" -> length ");
     print::print_number(n);
     print::print_text(b":");
@@ -50,10 +54,26 @@ fn print_laid(n: usize, room: &[u8]) -> usize {
 }
 
 // What a call refused, by 01's number, and whether it left the room as it was.
-pub fn print_refused(number: u8, room: &[u8]) -> usize {
+pub fn print_refused(number: u8, room: &[u8]) -> usize
+    ensures { λ r. ⌜ r ≤ length (now (room .entry)) ⌝ }
+{
     print::print_form(b" -> refused #, room ", &[number as u32]);
     print_kept(room, 0);
     0
+}
+
+// What a session's call that was done put, if anything, in a line of its own.
+pub fn print_done(put: usize, room: &[u8]) {
+    if 0 < put {
+        print::print_text(b"   ");
+        print_laid(put, room);
+    }
+}
+
+// Why a session's call was not done, in a line of its own.
+pub fn print_not_done(number: u8, room: &[u8]) {
+    print::print_text(b"   ");
+    print_refused(number, room);
 }
 
 fn print_kept(room: &[u8], from: usize) {

@@ -6,7 +6,7 @@ use crate::print;
 use crate::room;
 
 // The place past the first b at or after a place; the end where there is none.
-fn past(s: &[u8], from: usize, b: u8) -> usize
+pub fn past(s: &[u8], from: usize, b: u8) -> usize
     requires { ⌜ from ≤ length (now s) ⌝ }
     ensures { λ r. ⌜ from ≤ r ⌝ }
     ensures { λ r. ⌜ r ≤ length (now (s .entry)) ⌝ }
@@ -33,17 +33,24 @@ pub fn line_end(all: &[u8], at: usize) -> usize
     all.len()
 }
 
-// Where the word stands that has so many words before it.
-fn word(line: &[u8], before: usize) -> usize
-    ensures { λ r. ⌜ r ≤ length (now (line .entry)) ⌝ }
+// Where the part stands that has so many before it, each ended by b.
+pub fn part(s: &[u8], before: usize, b: u8) -> usize
+    ensures { λ r. ⌜ r ≤ length (now (s .entry)) ⌝ }
 {
     let mut at: usize = 0;
     let mut k: usize = 0;
     while k < before {
-        at = past(line, at, b' ');
+        at = past(s, at, b);
         k += 1;
     }
     at
+}
+
+// Where the word stands that has so many words before it.
+fn word(line: &[u8], before: usize) -> usize
+    ensures { λ r. ⌜ r ≤ length (now (line .entry)) ⌝ }
+{
+    part(line, before, b' ')
 }
 
 // The first letter of a word; 0 where the line has no such word.
@@ -57,7 +64,14 @@ pub fn letter(line: &[u8], before: usize) -> u8 {
 
 // The byte that a word says in hex.
 pub fn byte(line: &[u8], before: usize) -> u8 {
-    let at = word(line, before);
+    byte_at(line, word(line, before))
+}
+
+// The byte that is said at a place.
+pub fn byte_at(line: &[u8], at: usize) -> u8 {
+    if line.len() <= at {
+        return 0;
+    }
     if line.len() - at < 2 {
         return 0;
     }
@@ -66,7 +80,12 @@ pub fn byte(line: &[u8], before: usize) -> u8 {
 
 // The number that a word says in decimal.
 pub fn number(line: &[u8], before: usize) -> u32 {
-    let mut i = word(line, before);
+    number_at(line, word(line, before))
+}
+
+// The number that is said at a place.
+pub fn number_at(line: &[u8], at: usize) -> u32 {
+    let mut i = at;
     let mut n: u64 = 0;
     while i < line.len() {
         let b = line[i];
@@ -82,31 +101,73 @@ pub fn number(line: &[u8], before: usize) -> u32 {
     (n % 4_294_967_296) as u32
 }
 
+// How many bytes of a room of so many a line lends: its fourth word, but at most all.
+pub fn size(line: &[u8], most: usize) -> usize
+    ensures { λ r. ⌜ r ≤ most ⌝ }
+{
+    let n = number(line, 3) as usize;
+    if n < most { n } else { most }
+}
+
 // The number that digits say with one more of them.
 fn more(n: u64, digit: u8) -> u64 {
     n % 4_294_967_296 * 10 + digit as u64
 }
 
-// The line up to its colon.
-pub fn print_label(line: &[u8]) {
+// The line, without its end.
+pub fn print_line(line: &[u8]) {
     print::print_text(b"  ");
-    let colon = past(line, 0, b':');
-    print::print_text(&line[0..colon]);
+    let end = past(line, 0, b'\n');
+    if 0 < end {
+        print::print_text(&line[0..end - 1]);
+    }
 }
 
-// Puts the frame that stands behind a line's colon at the start of the store, and says how many bytes it has.
-pub fn frame(line: &[u8], store: &mut [u8]) -> usize {
-    let colon = past(line, 0, b':');
-    parse(&line[colon..], store)
+// One of several forms, each ended by a bar: the one that has so many before it.
+pub fn print_one(forms: &[u8], before: usize, values: &[u32]) {
+    let at = part(forms, before, b'|');
+    let end = past(forms, at, b'|');
+    if at < end {
+        print::print_form(&forms[at..end - 1], values);
+    }
 }
 
-// The bytes that a text gives, three of its own for each, at the start of the store, as many as it holds; and how many they are.
-fn parse(s: &[u8], store: &mut [u8]) -> usize {
-    let n = room::at_most(s.len() / 3, store);
+// How many bytes the frame has that stands behind a line's colon.
+pub fn frame_length(line: &[u8]) -> usize {
+    let colon = past(line, 0, b':');
+    (line.len() - colon) / 3
+}
+
+// The byte of that frame that has so many before it; 0 where there is none.
+pub fn frame_byte(line: &[u8], before: usize) -> u8 {
+    let colon = past(line, 0, b':');
+    let left = line.len() - colon;
+    if left / 3 <= before {
+        return 0;
+    }
+    let at = colon + 3 * before;
+    byte_of(line[at + 1], line[at + 2])
+}
+
+// Puts that frame at the start of the store, as much as it holds, and says how many bytes that is.
+pub fn frame(line: &[u8], store: &mut [u8]) -> usize
+    ensures { λ r. ⌜ r ≤ length (now (store .entry)) ⌝ }
+{
+    frame_from(line, 0, store)
+}
+
+// The same of what the frame has from a byte on.
+pub fn frame_from(line: &[u8], first: usize, store: &mut [u8]) -> usize
+    ensures { λ r. ⌜ r ≤ length (now (store .entry)) ⌝ }
+{
+    let all = frame_length(line);
+    if all <= first {
+        return 0;
+    }
+    let n = room::at_most(all - first, store);
     let mut k: usize = 0;
     while k < n {
-        let at = 3 * k;
-        store[k] = byte_of(s[at + 1], s[at + 2]);
+        store[k] = frame_byte(line, first + k);
         k += 1;
     }
     n

@@ -21,17 +21,17 @@ loop-holds c = search needs
 line-end-requires : tie.Need-line-end-requires Inv-loop μ-loop
 line-end-requires c κs = search needs
 
-sub-one : tie.Need-sub-one Inv-loop μ-loop
-sub-one c = search (needs, c .line-end .ensures .1 (c .before .loop-test .taken))
+sub-run : tie.Need-sub-run Inv-loop μ-loop
+sub-run c = search (needs, c .line-end .ensures .1 (c .before .loop-test .taken))
 
-part-one-start : tie.Need-part-one-start Inv-loop μ-loop
-part-one-start c = search (needs, c .line-end .ensures .1 (c .before .loop-test .taken))
+part-run-start : tie.Need-part-run-start Inv-loop μ-loop
+part-run-start c = search (needs, c .line-end .ensures .1 (c .before .loop-test .taken))
 
-part-one-end : tie.Need-part-one-end Inv-loop μ-loop
-part-one-end c = search needs
+part-run-end : tie.Need-part-run-end Inv-loop μ-loop
+part-run-end c = search needs
 
-one-requires : tie.Need-one-requires Inv-loop μ-loop
-one-requires c κs = search needs
+run-requires : tie.Need-run-requires Inv-loop μ-loop
+run-requires c κs = search needs
 
 loop-less : tie.Need-loop-less Inv-loop μ-loop
 loop-less c = omega (arith, c .before .before .line-end .ensures .1 (c .before .before .before .loop-test .taken))
@@ -51,10 +51,10 @@ each-spec =
     fresh-requires
     loop-holds
     line-end-requires
-    sub-one
-    part-one-start
-    part-one-end
-    one-requires
+    sub-run
+    part-run-start
+    part-run-end
+    run-requires
     loop-less
     loop-again
     returns)

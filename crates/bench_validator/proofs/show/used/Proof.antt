@@ -1,4 +1,4 @@
--- `bench_validator::show::used` meets its contract: no more bytes are counted than were seen. Assumes nothing.
+-- `bench_validator::show::used` meets its contract: the loop ends after the last byte. Assumes nothing.
 use Prim.Native.Nat.{_≤_, _-_}
 use lib.ListN.{length}
 use borrow.Author.Needs.{needs}
@@ -6,7 +6,7 @@ use Rattle.bench_validator.proofs.show.used.Statement.{statement}
 use Rattle.bench_validator.proofs.show.used.Tie as tie
 
 abbrev Inv-loop : tie.InvT-loop
-Inv-loop bytes n₀ i₀ n i = (i ≤ length bytes) × (n ≤ i)
+Inv-loop bytes n₀ i₀ n i = i ≤ length bytes
 
 abbrev μ-loop : tie.MeasureT-loop
 μ-loop bytes n₀ i₀ n i = length bytes - i
@@ -14,11 +14,8 @@ abbrev μ-loop : tie.MeasureT-loop
 loop-holds : tie.Need-loop-holds Inv-loop μ-loop
 loop-holds c = search needs
 
-shared-slice-read-one : tie.Need-shared-slice-read-one Inv-loop μ-loop
-shared-slice-read-one c = search needs
-
-one-requires : tie.Need-one-requires Inv-loop μ-loop
-one-requires c κs = search needs
+shared-slice-read-if1 : tie.Need-shared-slice-read-if1 Inv-loop μ-loop
+shared-slice-read-if1 c = search needs
 
 add-n : tie.Need-add-n Inv-loop μ-loop
 add-n c = search needs
@@ -42,8 +39,7 @@ used-spec =
     Inv-loop
     μ-loop
     loop-holds
-    shared-slice-read-one
-    one-requires
+    shared-slice-read-if1
     add-n
     add-i
     loop-less
