@@ -1,11 +1,11 @@
 // The host's end: its session, and what came of each call.
 ghost use Prim.Native.Nat.{_≤_};
-use crate::moves;
-use crate::way;
 use dispenser_rules::Closing;
 use dispenser_rules::Outcome;
 use dispenser_rules::Reply;
 use dispenser_rules::Session;
+use sheet_device::moves;
+use sheet_device::way;
 
 enum Call {
     Request { code: u8, upper: u32, lower: u32 },

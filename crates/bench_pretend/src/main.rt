@@ -2,15 +2,14 @@
 // with run, a list of moves, it writes what came of each call, and then both accounts; any other line it writes as it stands. The file `stdout` has what the run must write;
 // the second implementation holds it to documents 01 and 02 (cross/tests/bench_pretend.rs).
 mod bench;
-mod device;
 mod host;
-mod moves;
-mod way;
 
 use dispenser_rules::Session;
 use libc::STDERR_FILENO;
 use libc::STDIN_FILENO;
 use pretend_rules::Device;
+use sheet_device::moves;
+use sheet_device::way;
 
 // One byte more than a sheet may have, so that one that is too long shows.
 const ROOM: usize = 262_145;
@@ -61,7 +60,7 @@ fn run(line: &[u8], up: &mut [usize], down: &mut [usize]) {
     while at < line.len() {
         let end = sheet::past(line, at, b' ');
         session = host::moved(&line[at..end], session, up, down);
-        device = device::moved(&line[at..end], device, down, up);
+        device = sheet_device::moved(&line[at..end], device, down, up);
         at = end;
     }
     bench::show(session, device);

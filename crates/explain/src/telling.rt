@@ -2,11 +2,11 @@
 ghost use Prim.Native.Nat.{_<_};
 use dispenser_rules::Reply;
 use grading_rules::Replaying;
-use live::Live;
 use recording::Outcome;
 use recording::Place;
 use recording::Reader;
 use recording::Record;
+use spoken::Live;
 use spoken::lines;
 use spoken::lines::Run;
 use words::Told;

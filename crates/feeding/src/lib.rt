@@ -9,6 +9,12 @@ use progress::Progress;
 use recording::Place;
 use recording::Reader;
 
+// What was fed, up to the end or to a read that failed.
+pub struct Fed {
+    pub failed: bool,
+    pub replay: Replaying,
+}
+
 // What is found, unless a read failed: then it is what the bytes before leave.
 pub struct Replayed {
     pub failed: bool,
@@ -17,7 +23,9 @@ pub struct Replayed {
 
 // Reads into a lent buffer until the recording ends, a fault shows, or it is over the limit. It ends, whatever is read: each turn feeds at least one byte, so that there are no more
 // turns than a recording may have bytes, and one for the byte past the limit.
-pub fn replay_from(fd: i32, piece: &mut [u8]) -> Replayed {
+pub fn fed_from(fd: i32, piece: &mut [u8]) -> Fed
+    ensures { λ r. ⌜ Counted (r .replay) ⌝ }
+{
     let mut replay = Replaying::fresh();
     let mut turns: u64 = Reader::MOST + 1;
     let mut progress = progress::start();
@@ -40,12 +48,20 @@ pub fn replay_from(fd: i32, piece: &mut [u8]) -> Replayed {
 }
 
 // What the pieces leave, where nothing more is read.
-fn left(replay: Replaying, progress: Progress, failed: bool) -> Replayed
+fn left(replay: Replaying, progress: Progress, failed: bool) -> Fed
     requires { ⌜ Counted replay ⌝ }
+    ensures { λ r. ⌜ Counted (r .replay) ⌝ }
 {
     progress::stop(progress);
+    Fed { failed, replay }
+}
+
+// The same, and then the recording has ended.
+pub fn replay_from(fd: i32, piece: &mut [u8]) -> Replayed {
+    let fed = fed_from(fd, piece);
+    let replay = fed.replay;
     Replayed {
-        failed,
+        failed: fed.failed,
         found: grading::ended(replay),
     }
 }

@@ -27,7 +27,7 @@ use Rattle.recording.specs.declared.Record.the-variants.{Request, DispenserByte
 use Rattle.grading_rules.specs.Replay.{lentRoom, lentRoom255, payerDeclines, takerDeclines, counting, byBoth, given}
 use Rattle.grading_rules.specs.declared.desk.Desk.{Desk}
 use Rattle.recording.proofs.Record.{the-type as the-record}
-use Rattle.live.specs.Live.{untouched, takerUntouched, toPayer, toTaker, Living, lived, livedBy}
+use Rattle.live_rules.specs.Live.{untouched, takerUntouched, toPayer, toTaker, Living, lived, livedBy}
 use Rattle.live.proofs.Rooms.{outcome, session-request, session-byte, session-tick, takerOutcome, taker-request, taker-byte, taker-tick}
 
 or-false : (t : Bool) → (t || false) ≡ t

@@ -2,19 +2,15 @@
 ghost use mathlib.Core.Path.{_≡_};
 ghost use mathlib.Core.Bool.{cond, _||_};
 ghost use Prim.Native.Nat.{_+_, _<_};
+ghost use Rattle.dispenser_rules.specs.Errors.{erredBy};
 ghost use Rattle.dispenser_rules.specs.Session.{after};
 ghost use Rattle.validator_rules.specs.Session.{after as takerAfter};
 ghost use Rattle.grading_rules.specs.Replay.{payerDeclines, takerDeclines};
-ghost use Rattle.live.specs.Live.{toPayer, toTaker, lived, livedBy};
+ghost use Rattle.live_rules.specs.Live.{toPayer, toTaker, lived, livedBy};
+use dispenser_rules::LastErrors;
 use grading_rules::Desk;
+use live_rules::Lived;
 use recording::Record;
-
-// The desk, and what each session answered. That of a session which the record is not for is Done, with nothing put and no closing.
-pub struct Lived {
-    pub desk: Desk,
-    pub dispenser: dispenser_rules::Reply,
-    pub validator: validator_rules::Reply,
-}
 
 // The dispenser session, after a record.
 fn to_dispenser(
@@ -76,15 +72,33 @@ fn declines(payer: dispenser_rules::Reply, taker: validator_rules::Reply) -> boo
     }
 }
 
-// One declined record more, if it was.
-fn counted(n: u32, declined: bool) -> u32
-    requires { ⌜ n < 4_294_967_295 ⌝ }
-    ensures { λ r. ⌜ r ≡ cond declined (n + 1) n ⌝ }
+// The last errors and the count of declined records, after what both sessions answered.
+struct Tally {
+    errors: LastErrors,
+    declined: u32,
+}
+
+fn tallied(
+    errors: LastErrors,
+    declined: u32,
+    payer: dispenser_rules::Reply,
+    taker: validator_rules::Reply,
+) -> Tally
+    requires { ⌜ declined < 4_294_967_295 ⌝ }
+    ensures errors { λ r. ⌜ r .errors ≡ erredBy errors payer ⌝ }
+    ensures declined { λ r. ⌜ r .declined ≡ cond (payerDeclines payer || takerDeclines taker) (declined + 1) declined ⌝ }
 {
-    if declined {
-        return n + 1;
+    let known = dispenser_books::erred(errors, payer);
+    if declines(payer, taker) {
+        return Tally {
+            errors: known,
+            declined: declined + 1,
+        };
     }
-    n
+    Tally {
+        errors: known,
+        declined,
+    }
 }
 
 // Gives a record to the session that it is for, exactly as replay does. Each room holds the bytes to send on its line, as many as that session's reply says.
@@ -102,16 +116,15 @@ pub fn step(desk: Desk, x: Record, room: &mut [u8; 16], room255: &mut [u8; 255])
     let validator = taken.session;
     let answer = paid.reply;
     let said = taken.reply;
-    let errors = dispenser_books::erred(known, answer);
-    let declined = counted(desk.declined, declines(answer, said));
-    let records = desk.records + 1;
+    let tally = tallied(known, desk.declined, answer, said);
+    let errors = tally.errors;
     Lived {
         desk: Desk {
             dispenser,
             validator,
             errors,
-            declined,
-            records,
+            declined: tally.declined,
+            records: desk.records + 1,
         },
         dispenser: answer,
         validator: said,

@@ -1,8 +1,25 @@
 // Records entered and told.
 use dispenser_rules::Reply;
-use live::Live;
+use grading_rules::Desk;
+use live_rules::Entry;
+use recording::Reader;
 use recording::Record;
 use words::Told;
+
+// A desk, and how many bytes its recording has.
+pub struct Live {
+    pub desk: Desk,
+    pub written: u32,
+}
+
+impl Live {
+    pub fn fresh() -> Live {
+        Live {
+            desk: Desk::fresh(),
+            written: 0,
+        }
+    }
+}
 
 // What entering a record leaves: the desk, what the dispenser session answered, and what is told.
 pub struct Step {
@@ -17,11 +34,12 @@ pub fn enter(live: Live, x: Record, line: &mut [u8]) -> Step {
     let mut out = [0u8; 16];
     let mut room = [0u8; 16];
     let mut room255 = [0u8; 255];
-    let entered = live::enter(live, x, &mut out, &mut room, &mut room255);
-    let next = entered.live;
-    let is = next.desk;
-    let reply = entered.dispenser;
-    let other = entered.validator;
+    let entered = live::enter(was, live.written, x, &mut out, &mut room, &mut room255);
+    let entry = entered.entry;
+    let lived = entered.lived;
+    let is = lived.desk;
+    let reply = lived.dispenser;
+    let other = lived.validator;
     let told = words::made(
         line,
         x,
@@ -32,9 +50,25 @@ pub fn enter(live: Live, x: Record, line: &mut [u8]) -> Step {
         &room,
         &room255,
     );
+    let written = longer(live.written, entry);
+    let next = Live { desk: is, written };
     Step {
         live: next,
         reply,
         told,
+    }
+}
+
+// The size of the recording behind what was entered. It fits: else the record would not have been entered.
+fn longer(written: u32, entry: Entry) -> u32 {
+    let left = (Reader::MOST - written as u64) as usize;
+    match entry {
+        Entry::Bytes(n) => {
+            if left < n {
+                return written;
+            }
+            written + n as u32
+        }
+        _ => written,
     }
 }

@@ -7,6 +7,7 @@ mod sentences;
 pub use endings::ending;
 pub use endings::report;
 pub use endings::requests;
+pub use entries::Live;
 pub use entries::Step;
 pub use entries::enter;
 pub use sentences::parts;

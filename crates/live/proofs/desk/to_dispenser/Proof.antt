@@ -1,7 +1,7 @@
 -- `live::desk::to_dispenser` meets its contract, kind by kind. Assumes nothing.
 use mathlib.Core.Path.{ap}
 use Rattle.dispenser_rules.specs.Session.{After}
-use Rattle.live.specs.Live.{withRoom}
+use Rattle.live_rules.specs.Live.{withRoom}
 use Rattle.live.proofs.Steps.{payer-untouched}
 use borrow.Author.Needs.{needs}
 use Rattle.live.proofs.desk.to_dispenser.Statement.{statement}

@@ -6,7 +6,7 @@ use native.Mathlib.Omega.{arith}
 use borrow.Author.Tests.{le-ltb, lt-leb}
 use Rattle.refusals.proofs.Rules.{holds-true}
 use Rattle.recording.specs.Record.{mostBytes}
-use Rattle.live.specs.Entering.{isFull}
+use Rattle.live_rules.specs.Entering.{isFull}
 use borrow.Author.Needs.{needs}
 use Rattle.live.proofs.entry.is_full.Statement.{statement}
 use Rattle.live.proofs.entry.is_full.Tie as tie
@@ -19,18 +19,17 @@ cast-left c = search needs
 
 returns : tie.Need-returns
 unfolding isFull
-returns c = let args = c .before .before .before .args in sym (holds-true (isFull (args .live) (args .size)) (inl (omega (arith, c .if1 .taken))))
+returns c = let args = c .before .args in sym (holds-true (isFull (args .written) (args .records) (args .declined) (args .size)) (inl (omega (arith, c .if1 .taken))))
 
 returns-2 : tie.Need-returns-2
 unfolding isFull
-returns-2 c = let args = c .before .before .before .before .before .args in sym (holds-true (isFull (args .live) (args .size)) (inr (inl (omega (arith, c .if2 .taken)))))
+returns-2 c = let args = c .before .before .args in sym (holds-true (isFull (args .written) (args .records) (args .declined) (args .size)) (inr (inl (omega (arith, c .if2 .taken)))))
 
 returns-3 : tie.Need-returns-3
 unfolding isFull
 returns-3 c =
-    let args = c .before .before .before .before .before .before .args in
-    let most : args .live .written < 4_294_967_296 = search (needs, c .before .before .before .before .struct-known .given) in
-    rw (le-ltb mostBytes (args .live .written + args .size) (omega (arith, c .before .before .before .if1 .left)), lt-leb mostBytes (args .live .desk .records) (omega (arith, c .before .if2 .left)))
+    let args = c .before .before .args in
+    rw (le-ltb mostBytes (args .written + args .size) (omega (arith, c .before .if1 .left)), lt-leb mostBytes (args .records) (omega (arith, c .if2 .left)))
 
 pub is-full-spec : {M : Type 1} → statement M
 is-full-spec = tie.close (tie.spec sub-left cast-left returns returns-2 returns-3)

@@ -1,4 +1,0 @@
--- What the contracts of `live` cite.
-pub mod Live
-pub mod Entering
-pub mod Promises

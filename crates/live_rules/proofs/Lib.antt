@@ -1,0 +1,2 @@
+-- What is promised of the desk at work, proved.
+pub mod Replaying
