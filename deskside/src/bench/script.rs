@@ -13,6 +13,7 @@
 //! kill host during pay upper 1 the same, while the order is being carried out: in each round a little later; `kill desk during ..`
 //! times 12                     the script is run in so many rounds
 //! resume                       the desk goes on with the recording
+//! polled 999999                the first desk goes on with a recording that has so many polls, each closed silent
 //! small disk                   the first desk's recording cannot grow beyond half a kilobyte
 //! until full                   time passes until it has grown that far, and the desk must end
 //! report LINE                  at the end the report has this line
@@ -45,6 +46,7 @@ pub struct Script {
     pub not_switched_on: bool,
     pub machine: bool,
     pub small_disk: bool,
+    pub polled: u32,
     pub times: u32,
     pub steps: Vec<Step>,
     pub report: Vec<String>,
@@ -78,6 +80,10 @@ impl Script {
             }
             ("small", "disk") => {
                 self.small_disk = true;
+                return Some(());
+            }
+            ("polled", n) => {
+                self.polled = n.parse().ok()?;
                 return Some(());
             }
             ("times", n) => {
@@ -124,12 +130,13 @@ mod tests {
 
     #[test]
     fn every_step() {
-        let text = "# a remark\ntimes 3\nbills FF 00\nwait 5200 # quiet\npay upper 10\nunit mute\nexpect closed unknown\nsent dispenser 15\nkill host during pay upper 1\nkill desk\nresume\nreport declined 0\nnot switched on\n";
+        let text = "# a remark\ntimes 3\npolled 2\nbills FF 00\nwait 5200 # quiet\npay upper 10\nunit mute\nexpect closed unknown\nsent dispenser 15\nkill host during pay upper 1\nkill desk\nresume\nreport declined 0\nnot switched on\n";
         let wanted = Script {
             bills: Some("FF 00".into()),
             not_switched_on: true,
             machine: false,
             small_disk: false,
+            polled: 2,
             times: 3,
             steps: vec![
                 Step::Wait(5_200),

@@ -7,6 +7,7 @@ use crate::filter::{Filter, Program};
 use crate::hex;
 use crate::pretend::unit::Unit;
 use crate::pretend::units::Units;
+use crate::record;
 use crate::side::Side;
 use std::ffi::OsString;
 use std::fs::File;
@@ -17,8 +18,8 @@ use std::process::Command;
 use std::thread;
 use std::time::{Duration, Instant};
 
-/// How much later in each round a program is killed while an order is being carried out.
-const LATER: Duration = Duration::from_micros(100);
+/// How much later a program is killed while an order is being carried out: so much in the second round, four times in the third, nine times in the fourth, and so on.
+const LATER: Duration = Duration::from_micros(25);
 
 /// What a bench is made of.
 #[derive(Clone, Debug, Default)]
@@ -101,7 +102,10 @@ impl<'a> Stand<'a> {
     }
 
     fn run(&mut self) -> Result<(), String> {
-        self.start(false)?;
+        if self.script.polled > 0 {
+            std::fs::write(&self.recording, polled(self.script.polled)).map_err(|why| why.to_string())?;
+        }
+        self.start(self.script.polled > 0)?;
         for step in &self.script.steps {
             self.step(step).map_err(|why| format!("{step:?}: {why}"))?;
         }
@@ -298,7 +302,7 @@ impl<'a> Stand<'a> {
     fn kill(&mut self, who: Who, during: Option<&str>) -> Result<(), String> {
         if let Some(order) = during {
             self.desk()?.order(order)?;
-            let end = Instant::now() + LATER * self.round;
+            let end = Instant::now() + LATER * self.round * self.round;
             while Instant::now() < end {
                 self.carry()?;
             }
@@ -381,6 +385,11 @@ impl<'a> Stand<'a> {
         }
         account::fault(&report, self.units.unit.paid).map_or(Ok(()), Err)
     }
+}
+
+/// A recording of so many polls, each closed silent: quiet enough for the next, the poll, and the time in which its answer should have started.
+fn polled(times: u32) -> Vec<u8> {
+    [record::tick(20), record::ask(0x33), record::tick(10)].concat().repeat(times as usize)
 }
 
 /// The words with which the lines of a report begin.
