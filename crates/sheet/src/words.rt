@@ -101,12 +101,29 @@ pub fn number_at(line: &[u8], at: usize) -> u32 {
     (n % 4_294_967_296) as u32
 }
 
-// How many bytes of a room of so many a line lends: its fourth word, but at most all.
+// How many bytes of a room of so many a line lends: as many as it says, but at most all; all where it says none.
 pub fn size(line: &[u8], most: usize) -> usize
     ensures { λ r. ⌜ r ≤ most ⌝ }
 {
+    if !is_room(line, word(line, 2)) {
+        return most;
+    }
     let n = number(line, 3) as usize;
     if n < most { n } else { most }
+}
+
+// Does the word at a place begin as room does?
+fn is_room(line: &[u8], at: usize) -> bool {
+    if line.len() < 2 {
+        return false;
+    }
+    if line.len() - 2 < at {
+        return false;
+    }
+    if line[at] != b'r' {
+        return false;
+    }
+    line[at + 1] == b'o'
 }
 
 // The number that digits say with one more of them.
