@@ -26,7 +26,7 @@ pub(crate) fn with(path: &[u8]) {
         resume(path);
         return;
     }
-    crate::usage();
+    lines::usage();
 }
 
 fn same(a: &[u8], b: &[u8]) -> bool {

@@ -1,4 +1,5 @@
 // The lines that the host says as it begins. A write that fails ends nothing here: whoever reads has gone, and the input ends.
+use libc::STDERR_FILENO;
 use sheet::print_form;
 use sheet::print_text;
 
@@ -16,4 +17,12 @@ pub(crate) fn resumed(records: u32, bytes: u32, open: bool) {
         return;
     }
     print_form(b"resumed # # idle\n", &[records, bytes]);
+}
+
+pub(crate) fn usage() {
+    io::write_all(
+        STDERR_FILENO,
+        b"usage: host RECORDING [--switched-on | --resume]\n",
+    );
+    serving::failed();
 }

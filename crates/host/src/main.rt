@@ -7,26 +7,16 @@
 mod begin;
 mod lines;
 
-use libc::STDERR_FILENO;
-
 fn main() {
     let mut path = io::buffer();
     let n = os::arg(1, &mut path);
     if os::errno() != 0 {
-        usage();
+        lines::usage();
         return;
     }
     if n == 0 {
-        usage();
+        lines::usage();
         return;
     }
     begin::with(&path[..n]);
-}
-
-fn usage() {
-    io::write_all(
-        STDERR_FILENO,
-        b"usage: host RECORDING [--switched-on | --resume]\n",
-    );
-    serving::failed();
 }

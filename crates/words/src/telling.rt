@@ -2,6 +2,7 @@
 ghost use Prim.Native.Nat.{_+_, _*_, _≤_, _<_};
 ghost use lib.ListN.{length};
 use crate::books;
+use crate::parts::part;
 use crate::replies;
 use crate::waits;
 use dispenser_rules::Cassettes;
@@ -51,17 +52,6 @@ pub struct Told {
 
 // A room of so many bytes is never filled by what is told of a record: nothing is cut.
 pub const ROOM: usize = 24_576;
-
-// Something said of a line, of a cassette or of a sum: nothing, where nothing is said.
-pub(crate) fn part(line: &mut [u8], at: usize, whose: usize, said: Said) -> usize
-    ensures { λ r. ⌜ r ≤ at + 520 ⌝ }
-{
-    if said.sentence == Said::NOTHING {
-        return at;
-    }
-    let a = write(line, at, Said::alone(whose));
-    write(line, a, said)
-}
 
 // The bytes that go to a line, where there are any: so many from the room's start.
 fn sends(line: &mut [u8], at: usize, whose: usize, put: usize, room: &[u8]) -> usize
