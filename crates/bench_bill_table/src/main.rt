@@ -1,5 +1,7 @@
 // The bench sheet, the lines about bill tables. A line of the file `stdin` that begins with word or table is tried, and written with what came of it; any other line is
 // written as it stands. The file `stdout` has what the run must write, made from document 02 and from 003, and not from a run.
+#![tactic(auto)]
+
 mod table_lines;
 
 fn main() {

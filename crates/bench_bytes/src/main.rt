@@ -1,6 +1,8 @@
 // The bench sheet, the lines that try all 256 bytes at one place. A line of the file `stdin` that begins with each, turn or check is tried, and
 // written with what came of it; any other line is written as it stands. The file `stdout` has what the run must write, made from document 01 and not
 // from a run.
+#![tactic(auto)]
+
 mod fares;
 mod lines;
 

@@ -1,6 +1,8 @@
 // The bench sheet, the lines about two recordings. For each line `pair STUDENT REFERENCE` of standard input, two recordings of at most 200 bytes in hex without blanks, `-` for an
 // empty one, it writes the lines that tell where they part; any other line it writes as it stands. The file `stdout` has what the run must write, made from documents 01 and
 // 02 and by the second implementation, and not from a run.
+#![tactic(auto)]
+
 mod words;
 
 use libc::{STDERR_FILENO, STDIN_FILENO};

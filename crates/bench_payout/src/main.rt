@@ -1,6 +1,8 @@
 // Which notes make the sum: the program of the command ./payout. With arguments, an amount and then VALUE:STOCK for each cassette, it writes the plan for
 // them. Without, it reads a sheet from standard input: for each line that begins with a digit and gives the same words it writes the plan, on one line, and it writes
 // any other line as it stands. A word that is no number gets one line on standard error, and no plan.
+#![tactic(auto)]
+
 mod plan;
 mod words;
 

@@ -4,7 +4,7 @@ ghost use Rattle.std.specs.Prelude.{◌≤◌};
 use dispenser_rules::{Closing, Outcome, Reply, Session};
 use sheet_device::{moves, way};
 
-#[derive(Drop)]
+#[derive(Clone, Copy)]
 enum Call {
     Request { code: u8, upper: u32, lower: u32 },
     Byte(u8),

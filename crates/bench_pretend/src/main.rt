@@ -1,6 +1,8 @@
 // The bench sheet, the lines about both ends of the dispenser's line: a host session and the pretend dispenser run against each other. For each line of standard input that begins
 // with run, a list of moves, it writes what came of each call, and then both accounts; any other line it writes as it stands. The file `stdout` has what the run must write;
 // the second implementation holds it to documents 01 and 02 (cross/tests/bench_pretend.rs).
+#![tactic(auto)]
+
 mod bench;
 mod host;
 

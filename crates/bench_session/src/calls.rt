@@ -8,7 +8,7 @@
 //     session commands refused: 999999
 //     session account:
 
-#[derive(Drop)]
+#[derive(Clone, Copy)]
 pub(crate) enum Call {
     Request { code: u8, upper: u32, lower: u32 },
     Byte(u8),

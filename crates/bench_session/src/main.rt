@@ -1,6 +1,8 @@
 // The lines of the bench sheet that a dispenser session takes, run. A line of the file `stdin` that begins with session is so many calls, and
 // is written with what came of them; any other line is written as it stands. The file `stdout` has what the run must write, made from
 // documents 01 and 02 and not from a run.
+#![tactic(auto)]
+
 ghost use Rattle.std.specs.Prelude.{◌≤◌};
 
 use calls::Call;

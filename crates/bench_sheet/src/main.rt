@@ -4,6 +4,8 @@
 // starred lines are proved besides, in specs/Sheet.antt.
 //
 // The lines are data and not code, so that the sheet can grow and the proofs do not.
+#![tactic(auto)]
+
 mod answer_lines;
 mod ccnet_lines;
 mod command_lines;

@@ -8,7 +8,7 @@
 //     session kept:
 ghost use Rattle.std.specs.Prelude.{◌≤◌, length};
 
-#[derive(Drop)]
+#[derive(Clone, Copy)]
 pub(crate) enum Call {
     Request(u8),
     Byte(u8),

@@ -9,7 +9,7 @@
 use crate::{frame_lines, words};
 use vcdm_frame_rules::Counts;
 
-#[derive(Drop)]
+#[derive(Clone, Copy)]
 pub(crate) enum Call {
     Request { code: u8, counts: Counts },
     Byte(u8),

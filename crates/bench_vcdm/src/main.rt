@@ -1,5 +1,7 @@
 // The bench sheet of the four-cassette unit, run. A line of the file `stdin` that begins with session is so many calls, one that begins with write or read is tried, and each is
 // written with what came of it; any other line is written as it stands. The file `stdout` has what the run must write, made from document 02, Q-3, and from 000, and not from a run.
+#![tactic(auto)]
+
 ghost use Rattle.std.specs.Prelude.{◌≤◌};
 
 use calls::Call;

@@ -1,6 +1,8 @@
 // The bench sheet, the lines about wide CCNET frames. A line of the file `stdin` that begins with write or read is tried, and written with what came of
 // it; any other line is written as it stands. The file `stdout` has what the run must write, made from documents 01 and 02 and from 003, and not from a
 // run.
+#![tactic(auto)]
+
 mod wide_lines;
 
 fn main() {

@@ -1,4 +1,6 @@
 // The validator's bill table: 120 bytes, that is 24 words of five, one for each bill type; and what so many bills of a type are worth. Document 02, Q-1, and 003.
+#![tactic(auto)]
+
 ghost use Rattle.std.specs.Prelude.{◌≡◌, ◌^◌, ◌≤◌, length};
 ghost use Rattle.refusals.specs.Put.{written, writing, over};
 ghost use Rattle.bill_table.specs.Table.{kept, read_table, word_at};
@@ -24,11 +26,11 @@ const MOST_ZEROS: u8 = 9;
 const PLACES: u8 = 0x80;
 
 // Three letters: those of the currency.
-#[derive(Drop)]
+#[derive(Clone, Copy)]
 pub struct Letters(pub u8, pub u8, pub u8);
 
 // A word, as its bytes say it: the leading digits as a number, the letters, and the byte that tells zeros or places.
-#[derive(Drop)]
+#[derive(Clone, Copy)]
 pub struct Word {
     pub first: u8,
     pub letters: Letters,
@@ -36,7 +38,7 @@ pub struct Word {
 }
 
 // What bills are worth: a whole number that has so many decimals, and the letters. 25 NLC with 2 decimals is 0.25 NLC.
-#[derive(Drop)]
+#[derive(Clone, Copy)]
 pub struct Value {
     pub whole: u64,
     pub letters: Letters,
@@ -44,7 +46,7 @@ pub struct Value {
 }
 
 // What a word says of its bill type.
-#[derive(Drop)]
+#[derive(Clone, Copy)]
 pub enum Meaning {
     // All five bytes are zero: there is no such bill.
     NoBill,
@@ -55,7 +57,7 @@ pub enum Meaning {
 }
 
 // What so many bills of a type are worth.
-#[derive(Drop)]
+#[derive(Clone, Copy)]
 pub enum Total {
     // The word says no value.
     NoValue,

@@ -1,4 +1,6 @@
 // The check of CCNET frames, as 003's Pascal listing reckons it, a whole byte at a time. Document 01, "CCNET frames".
+#![tactic(auto)]
+
 ghost use Rattle.std.specs.Prelude.{◌≡◌};
 ghost use Rattle.std.specs.Int.Bits.{bit_xor};
 ghost use Rattle.ccnet_check.specs.Check.{turns, check};

@@ -1,4 +1,6 @@
 // What the body of a validator's answer says. Document 01, "CCNET frames".
+#![tactic(auto)]
+
 ghost use Rattle.std.specs.Prelude.{◌≡◌, cond};
 ghost use Rattle.ccnet_class.specs.Class.{is_state, is_rejection, is_failure, is_type, one_byte, two_bytes, class_of};
 
@@ -6,7 +8,7 @@ use numbers::byte_within;
 
 // The classes of answer bodies. ACK, NAK and illegal answer any command; the others but unknown and table are the listed poll answers. A bill type
 // is 0 to 23.
-#[derive(Drop)]
+#[derive(Clone, Copy)]
 pub enum Class {
     Ack,
     Nak,

@@ -1,5 +1,7 @@
 // CCNET frames: commands and answers written and read, and the body handed back as a part of the caller's own bytes. Document 01, "CCNET frames". What every frame
 // has, whichever form its length takes, is public for `ccnet_wide`: START, byte_at, judge_sized, lay, plan and word.
+#![tactic(auto)]
+
 ghost use Rattle.std.specs.Prelude.{◌≡◌, [], ◌∷◌, ◌++◌, ◌+◌, ◌*◌, ◌≤◌, length, get_or};
 ghost use Rattle.refusals.specs.Put.{written, writing, over};
 ghost use Rattle.refusals.specs.Rules.{says, within};
@@ -22,7 +24,7 @@ const VALIDATOR: u8 = 0x03;
 const MOST_BODY: usize = 250;
 
 // Why a reader refuses a frame.
-#[derive(Drop)]
+#[derive(Clone, Copy)]
 pub enum Fault {
     // The frame's length is wrong.
     Length,
@@ -46,7 +48,7 @@ impl Fault {
 }
 
 // What judging a frame finds.
-#[derive(Drop)]
+#[derive(Clone, Copy)]
 pub enum Judged {
     Good { address: u8 },
     Refused(Fault),

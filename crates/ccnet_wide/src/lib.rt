@@ -1,5 +1,7 @@
 // CCNET frames past 255 bytes, in the wide form of 003: written, read, and their data handed back as a part of the caller's own bytes.
 // Document 02, Q-11.
+#![tactic(auto)]
+
 ghost use Rattle.std.specs.Prelude.{◌≡◌, ◌≤◌, length};
 ghost use Rattle.refusals.specs.Rules.{within};
 ghost use Rattle.refusals.specs.Put.{written, over};
@@ -16,7 +18,7 @@ const LEAST: usize = 256;
 const MOST: usize = 65_535;
 
 // Where a wide frame has its true length, which its bytes do not tell: the caller says it.
-#[derive(Drop)]
+#[derive(Clone, Copy)]
 pub enum Form {
     AfterCode,
     AfterSubcommand,
@@ -25,7 +27,7 @@ pub enum Form {
 }
 
 // What a wide frame has before its true length.
-#[derive(Drop)]
+#[derive(Clone, Copy)]
 pub enum Lead {
     Code(u8),
     Subcommand { code: u8, subcommand: u8 },
@@ -33,7 +35,7 @@ pub enum Lead {
 }
 
 // What judging a wide frame finds.
-#[derive(Drop)]
+#[derive(Clone, Copy)]
 pub enum Judged {
     Good { address: u8, lead: Lead },
     Refused(Fault),

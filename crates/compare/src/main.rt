@@ -3,6 +3,8 @@
 //
 // A recording may have 4 GiB, and at most 64 KiB of each are held: equal whole records are passed over, and what follows them is read again from the last record's end on. That
 // changes nothing (`LeavingOut` and `Window` in crates/parted/specs/Promises.antt).
+#![tactic(auto)]
+
 ghost use Rattle.std.specs.Prelude.{◌≤◌, length};
 ghost use Rattle.compare.specs.Progress.{Progress};
 
@@ -83,7 +85,7 @@ fn compare_files(s: i32, r: i32, student: &[u8], reference: &[u8]) {
 }
 
 // What a look at two files from the end of a record on brings.
-#[derive(Drop)]
+#[derive(Clone, Copy)]
 pub(crate) enum Look {
     // So many bytes, and records, are the same in both.
     On(usize, usize),

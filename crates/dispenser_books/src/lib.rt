@@ -1,5 +1,7 @@
 // The books of the Model 2000T: the sums of its two cassettes, the last paying requests, and the last error of each cassette. What a call answered changes them. Each
 // function is proved to be its rule in `dispenser_rules`.
+#![tactic(auto)]
+
 mod account;
 mod errors;
 mod requests;

@@ -3,14 +3,14 @@ use error_codes::ErrorClass;
 use xor_frame::Fault;
 
 // Which cassette an answer speaks of.
-#[derive(Drop)]
+#[derive(Clone, Copy)]
 pub enum Cassette {
     Upper,
     Lower,
 }
 
 // An answer of the dispenser, with the values of its fields: counts as numbers; error, state and sensors as their bytes.
-#[derive(Drop)]
+#[derive(Clone, Copy)]
 pub enum Answer {
     Purged {
         error: u8,
@@ -49,7 +49,7 @@ pub enum Answer {
 }
 
 // What reading an answer frame finds: the answer, and beside it the class of its error byte.
-#[derive(Drop)]
+#[derive(Clone, Copy)]
 pub enum AnswerRead {
     Read { answer: Answer, class: ErrorClass },
     Refused(Fault),

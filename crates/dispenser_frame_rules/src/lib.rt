@@ -1,5 +1,7 @@
 // Model 2000T frames, both sides of the line, as rules: the table of codes, what a command and an answer say, their layouts, and what is promised of writing and
 // reading them. Document 01, "Dispenser frames".
+#![tactic(auto)]
+
 mod answer;
 mod command;
 mod table;

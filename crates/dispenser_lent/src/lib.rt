@@ -1,4 +1,6 @@
 // The dispenser session lent to the call and changed in place, for whoever keeps it in one place (02, Q-6). Each call leaves what the call by value leaves.
+#![tactic(auto)]
+
 ghost use Rattle.std.specs.Prelude.{◌≡◌, []};
 ghost use Rattle.dispenser_rules.specs.Session.{after, session_request, session_byte, session_tick, session_clear};
 

@@ -8,7 +8,7 @@ use exchange_rules::{Line, Notes, Phase, Sums};
 
 // The sums of a cassette, in the report's order.
 #[repr(C)]
-#[derive(Drop)]
+#[derive(Clone, Copy)]
 pub struct HeldSums {
     pub asked: u32,
     pub paid: u32,
@@ -22,7 +22,7 @@ pub struct HeldSums {
 
 // The command that is open, or was last.
 #[repr(C)]
-#[derive(Drop)]
+#[derive(Clone, Copy)]
 pub struct HeldAsked {
     pub code: u8,
     pub upper: u32,
@@ -32,7 +32,7 @@ pub struct HeldAsked {
 
 // The session: its line, the command, the sums of both cassettes and the gathering store. The kept requests do not cross the border: no call needs them.
 #[repr(C)]
-#[derive(Drop)]
+#[derive(Clone, Copy)]
 pub struct Held {
     pub left: u64,
     pub quiet: u64,
@@ -50,7 +50,7 @@ pub struct Held {
 
 // What a call answers: 0, or the number with which it was declined; the bytes that it put; 0, or 1, 2, 3 for answered, refused, unknown; the answer's error byte, or 0.
 #[repr(C)]
-#[derive(Drop)]
+#[derive(Clone, Copy)]
 pub struct HeldReply {
     pub put: usize,
     pub declined: u8,
@@ -59,7 +59,7 @@ pub struct HeldReply {
 }
 
 #[repr(C)]
-#[derive(Drop)]
+#[derive(Clone, Copy)]
 pub struct HeldOutcome {
     pub session: Held,
     pub reply: HeldReply,

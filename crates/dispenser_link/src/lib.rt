@@ -1,4 +1,6 @@
 // The dispenser session for a program in C or Rust: what it links, in numbers alone. `rt staticlib` makes the archive, and link/dispenser.h has what such a program sees.
+#![tactic(auto)]
+
 mod calls;
 mod held;
 

@@ -7,13 +7,13 @@ use crate::requests::Requests;
 use exchange_rules::Sums;
 
 // The sums of the two cassettes.
-#[derive(Drop)]
+#[derive(Clone, Copy)]
 pub struct Cassettes {
     pub upper: Sums,
     pub lower: Sums,
 }
 
-#[derive(Drop)]
+#[derive(Clone, Copy)]
 pub struct Account {
     pub cassettes: Cassettes,
     pub requests: Requests,

@@ -5,13 +5,13 @@ ghost use Rattle.dispenser_rules.specs.Errors.{no_errors};
 use error_codes::ErrorClass;
 
 // None before any paying or test answer for the cassette; then the class of the error byte of the last one.
-#[derive(Drop)]
+#[derive(Clone, Copy)]
 pub enum LastError {
     NoneYet,
     Of(ErrorClass),
 }
 
-#[derive(Drop)]
+#[derive(Clone, Copy)]
 pub struct LastErrors {
     pub upper: LastError,
     pub lower: LastError,

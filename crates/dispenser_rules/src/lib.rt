@@ -1,5 +1,7 @@
 // The dispenser session of the Model 2000T, as rules: what it holds, what each call leaves, and what is promised of it. Document 01, "The dispenser session" and
 // "The account".
+#![tactic(auto)]
+
 mod account;
 mod errors;
 mod requests;

@@ -5,7 +5,7 @@ ghost use Rattle.dispenser_rules.specs.Requests.{fresh_requests};
 use exchange_rules::Notes;
 
 // How a request stands: it is open, or how it closed. An answer says how many notes were paid from each cassette.
-#[derive(Drop)]
+#[derive(Clone, Copy)]
 pub enum Standing {
     Open,
     Answered { upper: Notes, lower: Notes },
@@ -14,7 +14,7 @@ pub enum Standing {
 }
 
 // A request that is kept: its code, the notes asked of each cassette, how often it was handed over so far, and how it stands.
-#[derive(Drop)]
+#[derive(Clone, Copy)]
 pub struct KeptRequest {
     pub code: u8,
     pub upper: u32,
@@ -24,28 +24,28 @@ pub struct KeptRequest {
 }
 
 // Where the next request is written, and how many are held.
-#[derive(Drop)]
+#[derive(Clone, Copy)]
 pub struct Place {
     pub next: usize,
     pub held: usize,
 }
 
 // The slots are a ring: the 33rd request is written over the oldest.
-#[derive(Drop)]
+#[derive(Clone, Copy)]
 pub struct Requests {
     pub place: Place,
     pub slots: [KeptRequest; 32],
 }
 
 // What a call writes down of a request, and in which slot; none, that is 32, where it writes nothing.
-#[derive(Drop)]
+#[derive(Clone, Copy)]
 pub struct Written {
     pub slot: usize,
     pub request: KeptRequest,
 }
 
 // What stands at a place of the kept requests, the oldest at 0.
-#[derive(Drop)]
+#[derive(Clone, Copy)]
 pub enum KeptAt {
     Nothing,
     Request(KeptRequest),

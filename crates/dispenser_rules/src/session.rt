@@ -9,7 +9,7 @@ use exchange_rules::Line;
 use refusals::Declined;
 
 // The command that is open, or was last: its code, the notes asked of each cassette (0 where none are), and the length of its answer.
-#[derive(Drop)]
+#[derive(Clone, Copy)]
 pub struct Asked {
     pub code: u8,
     pub upper: u32,
@@ -18,7 +18,7 @@ pub struct Asked {
 }
 
 // How a call closed the open command, if it did.
-#[derive(Drop)]
+#[derive(Clone, Copy)]
 pub enum Closing {
     Nothing,
     // With the answer that was read, and the class of its error byte.
@@ -28,21 +28,21 @@ pub enum Closing {
 }
 
 // What a call answers: why it was declined, or how many bytes it put at the room's start and which closing it made.
-#[derive(Drop)]
+#[derive(Clone, Copy)]
 pub enum Reply {
     NotDone(Declined),
     Done { put: usize, closing: Closing },
 }
 
 // What a byte or a tick leaves.
-#[derive(Drop)]
+#[derive(Clone, Copy)]
 pub struct Step {
     pub line: Line,
     pub reply: Reply,
 }
 
 // What a request leaves.
-#[derive(Drop)]
+#[derive(Clone, Copy)]
 pub struct Opening {
     pub line: Line,
     pub asked: Asked,
@@ -50,7 +50,7 @@ pub struct Opening {
 }
 
 // The session: the line, the command, the account and the gathering store.
-#[derive(Drop)]
+#[derive(Clone, Copy)]
 pub struct Session {
     pub line: Line,
     pub asked: Asked,
@@ -59,7 +59,7 @@ pub struct Session {
 }
 
 // What a call by value leaves.
-#[derive(Drop)]
+#[derive(Clone, Copy)]
 pub struct Outcome {
     pub session: Session,
     pub reply: Reply,

@@ -3,6 +3,8 @@
 //     enable_bills FF FF FF 00 00 00     the six data bytes of 34h
 //
 // Events are records on standard input, as those of `host`; milliseconds and bytes from the validator are used. Each is answered by the bytes to send, if any, and done; the last by what came of it.
+#![tactic(auto)]
+
 use filter::Event;
 use recording::Record;
 use sheet::print_text;
@@ -12,7 +14,7 @@ use validator_rules::{Closing, Outcome, Reply, Session};
 const ENABLE: u8 = 0x34;
 
 // The session, whether the command was sent, and whether it has closed.
-#[derive(Drop)]
+#[derive(Clone, Copy)]
 struct Enabling {
     session: Session,
     sent: bool,

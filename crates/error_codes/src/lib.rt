@@ -1,9 +1,11 @@
 // The error bytes of the Model 2000T: the 27 that are published, and what to tell the student about each. Document 01, "Dispenser frames"; document 02, Q-5.
+#![tactic(auto)]
+
 ghost use Rattle.std.specs.Prelude.{◌≡◌};
 ghost use Rattle.error_codes.specs.Errors.{error_class};
 
 // What an error byte means to the student.
-#[derive(Drop)]
+#[derive(Clone, Copy)]
 pub enum ErrorClass {
     Fine,
     OutOfNotes,
@@ -15,7 +17,7 @@ pub enum ErrorClass {
 }
 
 // A published code, and its class.
-#[derive(Drop)]
+#[derive(Clone, Copy)]
 pub struct Entry {
     pub code: u8,
     pub class: ErrorClass,

@@ -3,7 +3,7 @@ ghost use Rattle.std.specs.Prelude.{◌≡◌};
 ghost use Rattle.exchange_rules.specs.Exchange.{fresh_line};
 
 // Where the line stands: nothing open; waiting for the first byte since a hand-over; for an answer to start; inside an answer.
-#[derive(Drop)]
+#[derive(Clone, Copy)]
 pub enum Phase {
     Idle,
     First,
@@ -12,7 +12,7 @@ pub enum Phase {
 }
 
 // What changes with each byte and tick. Waits are counted down, idle too: 0 is a line that has been quiet long enough.
-#[derive(Drop)]
+#[derive(Clone, Copy)]
 pub struct Line {
     // Milliseconds left of the wait, or of the quiet that the next command needs.
     pub left: u64,
@@ -32,7 +32,7 @@ pub struct Line {
 }
 
 // What is to be done now.
-#[derive(Drop)]
+#[derive(Clone, Copy)]
 pub enum Todo {
     Nothing,
     HandOver,
@@ -46,7 +46,7 @@ pub enum Todo {
     CloseUnknown,
 }
 
-#[derive(Drop)]
+#[derive(Clone, Copy)]
 pub struct Turn {
     pub line: Line,
     pub todo: Todo,
@@ -54,14 +54,14 @@ pub struct Turn {
 
 // What a byte is: a byte of an answer, to be kept in the gathering store; the last one, after which the frame is judged; or no byte of an answer, and what is
 // to be done.
-#[derive(Drop)]
+#[derive(Clone, Copy)]
 pub enum Heard {
     Keep,
     Judge,
     Do(Todo),
 }
 
-#[derive(Drop)]
+#[derive(Clone, Copy)]
 pub struct Hearing {
     pub line: Line,
     pub heard: Heard,

@@ -3,12 +3,12 @@ ghost use Rattle.std.specs.Prelude.{◌≡◌};
 ghost use Rattle.exchange_rules.specs.Sums.{fresh_sums};
 
 // A number of notes paid out. Bills taken in are another type, so that no sum can mix the two.
-#[derive(Drop)]
+#[derive(Clone, Copy)]
 pub struct Notes(pub u32);
 
 // The sums of one cassette. Notes asked and notes paid over the asking are, together, those paid, short, refused, unknown and pending
 // (still open); rejected notes stand apart.
-#[derive(Drop)]
+#[derive(Clone, Copy)]
 pub struct Sums {
     pub asked: Notes,
     pub paid: Notes,

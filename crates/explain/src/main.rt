@@ -1,5 +1,7 @@
 // Tells recordings record by record: each file that an argument names, or standard input where none does. The first two arguments are the offset from which on records are told, and how many of
 // them. A file that cannot be opened or read, or an argument that is no path, gets one line on standard error.
+#![tactic(auto)]
+
 mod telling;
 
 use libc::{STDERR_FILENO, STDIN_FILENO};

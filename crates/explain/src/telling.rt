@@ -9,14 +9,14 @@ use spoken::{Live, lines};
 use words::Told;
 
 // The bytes of the record that is begun: no record has more than 16.
-#[derive(Drop)]
+#[derive(Clone, Copy)]
 struct Begun {
     held: u32,
     bytes: [u8; 16],
 }
 
 // What is told so far: the desk, the milliseconds since the start, how many records are yet to be told, and what the line at hand is of.
-#[derive(Drop)]
+#[derive(Clone, Copy)]
 struct SoFar {
     live: Live,
     ms: u64,
@@ -25,7 +25,7 @@ struct SoFar {
 }
 
 // A recording as far as it has come.
-#[derive(Drop)]
+#[derive(Clone, Copy)]
 struct Telling {
     reader: Reader,
     begun: Begun,

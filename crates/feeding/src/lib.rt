@@ -1,4 +1,6 @@
 // A recording that is read from a descriptor and replayed, in pieces of at most 64 KiB.
+#![tactic(auto)]
+
 ghost use Rattle.grading_rules.specs.Promises.{Counted};
 
 mod progress;
@@ -8,14 +10,14 @@ use progress::Progress;
 use recording::{Place, Reader};
 
 // What was fed, up to the end or to a read that failed.
-#[derive(Drop)]
+#[derive(Clone, Copy)]
 pub struct Fed {
     pub failed: bool,
     pub replay: Replaying,
 }
 
 // What is found, unless a read failed: then it is what the bytes before leave.
-#[derive(Drop)]
+#[derive(Clone, Copy)]
 pub struct Replayed {
     pub failed: bool,
     pub found: Findings,

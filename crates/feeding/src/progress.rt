@@ -6,7 +6,7 @@ use refusals::Put;
 // The commands of this repository read the program's standard error themselves, and lend their own as this descriptor.
 const LENT_FILENO: i32 = 4;
 
-#[derive(Drop)]
+#[derive(Clone, Copy)]
 pub(crate) struct Progress {
     // The terminal, or -1 where there is none.
     pub terminal: i32,

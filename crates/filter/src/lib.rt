@@ -1,4 +1,6 @@
 // What the filters at the desk share: records on standard input, one at a time, and the line that says which bytes are to be sent.
+#![tactic(auto)]
+
 use libc::STDIN_FILENO;
 use recording::{Fault, Outcome, Reader, Record, Verdict};
 use sheet::{print_bytes, print_text};
@@ -7,7 +9,7 @@ use sheet::{print_bytes, print_text};
 pub const TURNS: u64 = 18_446_744_073_709_551_615;
 
 // What the next bytes are: a record, none since the input has ended, or why they are none; or they cannot be read.
-#[derive(Drop)]
+#[derive(Clone, Copy)]
 pub enum Event {
     Whole(Record),
     End,

@@ -7,7 +7,7 @@ use dispenser_rules::LastErrors;
 use recording::Reader;
 
 // Both sessions, the last error of each cassette, and the records so far: those declined, and all.
-#[derive(Drop)]
+#[derive(Clone, Copy)]
 pub struct Desk {
     pub dispenser: dispenser_rules::Session,
     pub validator: validator_rules::Session,
@@ -33,7 +33,7 @@ impl Desk {
 
 // The desk, the reader of the record that is begun, and how many bytes were fed: the offset of the next one. Every number fits: a recording has at most 4,294,967,295
 // bytes, a record at least one. After a fault the reader stays at it, and everything else is as it was at first.
-#[derive(Drop)]
+#[derive(Clone, Copy)]
 pub struct Replaying {
     pub desk: Desk,
     pub reader: Reader,

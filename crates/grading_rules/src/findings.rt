@@ -4,14 +4,14 @@ use recording::Fault;
 use validator_rules::Bills;
 
 // How a replay ends: the recording is good, or bad by a fault that shows in the record at an offset.
-#[derive(Drop)]
+#[derive(Clone, Copy)]
 pub enum Ending {
     Good,
     Bad(Fault, u32),
 }
 
 // What a replay leaves for the report.
-#[derive(Drop)]
+#[derive(Clone, Copy)]
 pub struct Findings {
     pub account: Account,
     pub errors: LastErrors,

@@ -1,4 +1,6 @@
 // Replay of a recording through both sessions, as rules: what it leaves for the report, and what is promised of it. Document 01, "Recording and report".
+#![tactic(auto)]
+
 mod desk;
 mod findings;
 

@@ -1,5 +1,7 @@
 // What a record does: the parts of both sessions, each record given to the session that it is for, and what it books. Whoever replays a recording owns the parts, and books
 // after the step. Each call is lent a room of its own: nothing that was sent is looked at.
+#![tactic(auto)]
+
 ghost use Rattle.std.specs.Prelude.{◌≡◌, false, cond, ◌||◌, List, ℕ, ◌+◌, ◌<◌};
 ghost use Rattle.validator_rules.specs.Bills.{booked_by};
 ghost use Rattle.validator_rules.specs.declared.bills.Bills.{Bills};
@@ -14,7 +16,7 @@ use recording::Record;
 
 // What changes with each record, but for the stores and what is booked: the payer's line (the dispenser's) and its command, the taker's line (the validator's), and
 // the counts.
-#[derive(Drop)]
+#[derive(Clone, Copy)]
 pub struct Run {
     pub payer: exchange_rules::Line,
     pub asked: Asked,
@@ -68,7 +70,7 @@ fn assembled(
 
 // What is booked of the dispenser: the sums of both cassettes, where the next request is kept, and the last error of each cassette. The slots of the kept requests stand apart, so
 // that nothing moves them.
-#[derive(Drop)]
+#[derive(Clone, Copy)]
 pub struct Books {
     pub cassettes: Cassettes,
     pub place: Place,
@@ -76,7 +78,7 @@ pub struct Books {
 }
 
 // What a record books: nothing, what a request answered, or what a byte or a tick did.
-#[derive(Drop)]
+#[derive(Clone, Copy)]
 pub enum Entry {
     Nothing,
     Asked(dispenser_rules::Reply),
@@ -84,7 +86,7 @@ pub enum Entry {
 }
 
 // What a record leaves.
-#[derive(Drop)]
+#[derive(Clone, Copy)]
 pub struct Moved {
     pub run: Run,
     pub entry: Entry,

@@ -4,6 +4,8 @@
 //     host RECORDING                 a new recording: the file must not exist
 //     host RECORDING --switched-on   the same, after the unit was switched off and on: payouts are taken at once
 //     host RECORDING --resume        goes on with a recording
+#![tactic(auto)]
+
 mod begin;
 mod lines;
 

@@ -72,7 +72,7 @@ fn declines(payer: dispenser_rules::Reply, taker: validator_rules::Reply) -> boo
 }
 
 // The last errors and the count of declined records, after what both sessions answered.
-#[derive(Drop)]
+#[derive(Clone, Copy)]
 struct Tally {
     errors: LastErrors,
     declined: u32,

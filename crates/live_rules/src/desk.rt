@@ -2,7 +2,7 @@
 use grading_rules::Desk;
 
 // The desk, and what each session answered. That of a session which the record is not for is Done, with nothing put and no closing.
-#[derive(Drop)]
+#[derive(Clone, Copy)]
 pub struct Lived {
     pub desk: Desk,
     pub dispenser: dispenser_rules::Reply,

@@ -1,4 +1,6 @@
 // The desk while it works, as rules: what a step leaves, what it is to enter a record, and what is promised of that. The functions stand in `live`.
+#![tactic(auto)]
+
 mod desk;
 mod entry;
 

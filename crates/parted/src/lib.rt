@@ -1,5 +1,7 @@
 // Where two recordings part: a student's, laid beside the reference. Document 02, Q-8. Two calls follow one definition: `parting` says where they part and whose
 // remainder goes on from there, or which of them is malformed; `remainder` hands that remainder back, as a part of the caller's own bytes.
+#![tactic(auto)]
+
 ghost use Rattle.std.specs.Prelude.{◌≡◌};
 ghost use Rattle.parted.specs.Parting.{equal, due_at, beside_record, beside_end, turn_at, parting_of};
 ghost use Rattle.parted.specs.Remainder.{Remains};
@@ -7,14 +9,14 @@ ghost use Rattle.parted.specs.Remainder.{Remains};
 use recording::{Fault, NextRecord, record_at};
 
 // Which of the two.
-#[derive(Drop)]
+#[derive(Clone, Copy)]
 pub enum Whose {
     Student,
     Reference,
 }
 
 // What follows the equal records.
-#[derive(Drop)]
+#[derive(Clone, Copy)]
 pub enum Next {
     // The remainder that is handed back.
     Rest(Whose),
@@ -23,7 +25,7 @@ pub enum Next {
 }
 
 // Where two recordings part.
-#[derive(Drop)]
+#[derive(Clone, Copy)]
 pub struct Parted {
     // Where the longest run of equal whole records ends, in both.
     pub at: usize,
@@ -33,7 +35,7 @@ pub struct Parted {
 }
 
 // What stands in a recording where a record is due.
-#[derive(Drop)]
+#[derive(Clone, Copy)]
 pub(crate) enum Due {
     End,
     // A record of so many bytes.
@@ -42,7 +44,7 @@ pub(crate) enum Due {
 }
 
 // What two recordings show where a record is due in both.
-#[derive(Drop)]
+#[derive(Clone, Copy)]
 pub(crate) enum Turn {
     // The same record, of so many bytes.
     On(usize),

@@ -1,4 +1,6 @@
 // Which notes make the sum: how many to take from each of two or four cassettes. Document 02, Q-10.
+#![tactic(auto)]
+
 ghost use Rattle.std.specs.Prelude.{◌≡◌, ◌+◌, ◌≤◌, ◌<◌, ◌^◌, length};
 ghost use Rattle.payout.specs.Plan.{fits, cassettes_fit, two_or_four, in_range, no_plan_number, Right};
 ghost use Rattle.payout.specs.Scaffolding.{Job, Answer, lesser, better, notes_of, taken_from, plan_of};
@@ -22,7 +24,7 @@ const ALL_OF_TWO: u32 = 2 * EACH_OF_TWO;
 const ALL_OF_FOUR: u32 = 20;
 
 // Why there is no plan.
-#[derive(Drop)]
+#[derive(Clone, Copy)]
 pub enum NoPlan {
     // A note value, a stock or the amount is out of range, or there are not two or four of both.
     Range,
@@ -43,7 +45,7 @@ impl NoPlan {
 }
 
 // How many to take from each cassette, or why not.
-#[derive(Drop)]
+#[derive(Clone, Copy)]
 pub enum Plan {
     Two {
         first: u32,
@@ -59,7 +61,7 @@ pub enum Plan {
 }
 
 // How many to take from each cassette that is left, and how many notes that is. Where fewer are left, the last counts say nothing.
-#[derive(Drop)]
+#[derive(Clone, Copy)]
 struct Counts {
     notes: u32,
     first: u32,
@@ -69,7 +71,7 @@ struct Counts {
 }
 
 // What a search has found so far.
-#[derive(Drop)]
+#[derive(Clone, Copy)]
 enum Found {
     Nothing,
     Best(Counts),

@@ -1,11 +1,13 @@
 // The command that a plan for the two-cassette unit becomes. Document 02, Q-10.
+#![tactic(auto)]
+
 ghost use Rattle.std.specs.Prelude.{◌≡◌};
 ghost use Rattle.payout_command.specs.Command.{command_for};
 
 use dispenser_frame_rules::{PAY_BOTH, PAY_LOWER, PAY_UPPER};
 
 // What is to be sent.
-#[derive(Drop)]
+#[derive(Clone, Copy)]
 pub enum Command {
     // Amount 0: no notes, no command.
     Nothing,

@@ -8,7 +8,7 @@ use dispenser_frame_rules::Answer;
 use refusals::Declined;
 
 // What came of a call, beside the bytes that it put.
-#[derive(Drop)]
+#[derive(Clone, Copy)]
 pub enum Happening {
     Nothing,
     // A command was taken, and answered 06h: its code, and the notes asked of each cassette.
@@ -18,21 +18,21 @@ pub enum Happening {
 }
 
 // What a call answers: why it was declined, or how many bytes it put at the room's start and what came of it.
-#[derive(Drop)]
+#[derive(Clone, Copy)]
 pub enum Reply {
     NotDone(Declined),
     Done { put: usize, what: Happening },
 }
 
 // What a byte, a tick or a telling leaves.
-#[derive(Drop)]
+#[derive(Clone, Copy)]
 pub struct Step {
     pub wire: Wire,
     pub reply: Reply,
 }
 
 // The device: the wire, the code of the command in hand, its answer (to be sent again), its own account and the gathering store.
-#[derive(Drop)]
+#[derive(Clone, Copy)]
 pub struct Device {
     pub wire: Wire,
     pub code: u8,
@@ -42,7 +42,7 @@ pub struct Device {
 }
 
 // What a call by value leaves.
-#[derive(Drop)]
+#[derive(Clone, Copy)]
 pub struct Outcome {
     pub device: Device,
     pub reply: Reply,

@@ -5,14 +5,14 @@ ghost use Rattle.pretend_rules.specs.Tally.{fresh_tallies};
 use exchange_rules::Notes;
 
 // One cassette.
-#[derive(Drop)]
+#[derive(Clone, Copy)]
 pub struct Tally {
     pub paid: Notes,
     pub rejected: Notes,
 }
 
 // The two cassettes.
-#[derive(Drop)]
+#[derive(Clone, Copy)]
 pub struct Tallies {
     pub upper: Tally,
     pub lower: Tally,

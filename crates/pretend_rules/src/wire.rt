@@ -3,7 +3,7 @@ ghost use Rattle.std.specs.Prelude.{◌≡◌};
 ghost use Rattle.pretend_rules.specs.Wire.{fresh_wire};
 
 // Where the device stands: nothing begun; inside a command; 06h sent, and the answer's fields awaited; the answer sent, and not yet at its end.
-#[derive(Drop)]
+#[derive(Clone, Copy)]
 pub enum Stand {
     Idle,
     Reading,
@@ -12,7 +12,7 @@ pub enum Stand {
 }
 
 // What changes with each byte and tick. Waits are counted down; where nothing is waited for, 0 is left.
-#[derive(Drop)]
+#[derive(Clone, Copy)]
 pub struct Wire {
     // Milliseconds left of the wait.
     pub left: u64,
@@ -28,7 +28,7 @@ pub struct Wire {
 }
 
 // What is to be done now.
-#[derive(Drop)]
+#[derive(Clone, Copy)]
 pub enum Act {
     Nothing,
     // Send 15h.
@@ -39,7 +39,7 @@ pub enum Act {
     Finish,
 }
 
-#[derive(Drop)]
+#[derive(Clone, Copy)]
 pub struct Turn {
     pub wire: Wire,
     pub act: Act,
@@ -47,14 +47,14 @@ pub struct Turn {
 
 // What a byte is: a byte of a command, to be kept in the gathering store; the last one, after which the command is judged; or no byte of a command, and what is
 // to be done.
-#[derive(Drop)]
+#[derive(Clone, Copy)]
 pub enum Heard {
     Keep,
     Judge,
     Do(Act),
 }
 
-#[derive(Drop)]
+#[derive(Clone, Copy)]
 pub struct Hearing {
     pub wire: Wire,
     pub heard: Heard,

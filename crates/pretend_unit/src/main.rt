@@ -4,6 +4,8 @@
 //     x04h                     a byte from the host
 //     w1000                    so many milliseconds pass
 //     t45h,10,10,30h,30h,0     the answer's fields, to the code that it waits for (docs/PRETEND.md)
+#![tactic(auto)]
+
 use libc::STDIN_FILENO;
 use pretend_rules::Device;
 use sheet_device::way;
@@ -15,7 +17,7 @@ const LINE: usize = 64;
 const TURNS: u64 = 18_446_744_073_709_551_615;
 
 // The device, the line that is begun, and whether there is more to read.
-#[derive(Drop)]
+#[derive(Clone, Copy)]
 struct Unit {
     device: Device,
     line: [u8; LINE],

@@ -6,7 +6,7 @@ use spelling::{Spelled, is_sentence};
 use text::{Said, hear};
 
 // What a line leaves: the text goes on, or it has ended, or the line is not understood. It ends as well where a write fails: what follows would stand in the recording with a gap before it.
-#[derive(Drop)]
+#[derive(Clone, Copy)]
 pub(crate) enum Course {
     On,
     Ended,

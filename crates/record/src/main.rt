@@ -1,5 +1,7 @@
 // Turns the lines of `explain` back into a recording: of the file that its argument names, or of standard input where there is none. It reads and writes line by line. A line that is not
 // understood gets one line on standard error, and there it ends; so do a read and a write that fail. A file that cannot be opened, or an argument that is no path, gets such a line too.
+#![tactic(auto)]
+
 mod lines;
 mod reading;
 

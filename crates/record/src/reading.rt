@@ -7,7 +7,7 @@ use libc::STDERR_FILENO;
 pub(crate) const LINE: usize = 8_192;
 
 // How many bytes of the line are held, whether the rest of it is passed over, how many lines stand before it, and whether the text goes on.
-#[derive(Drop)]
+#[derive(Clone, Copy)]
 struct Reading {
     held: usize,
     passing: bool,

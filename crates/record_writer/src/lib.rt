@@ -1,5 +1,7 @@
 // A record written at the start of a lent room. Document 02, Q-8: "Add a writer for recordings, so that a corrected session can be saved". A recording is saved record
 // by record, each behind the one before.
+#![tactic(auto)]
+
 ghost use Rattle.std.specs.Prelude.{◌≡◌, ◌+◌, ◌≤◌, ◌∷◌, ◌++◌, length, take, drop};
 ghost use Rattle.refusals.specs.Put.{written, over};
 ghost use Rattle.numbers.specs.Seven.{groups};

@@ -1,5 +1,7 @@
 // Recordings, read a byte at a time. Document 01, "Recording and report". The step over one byte is all that there is to reading, so that a
 // recording may come in pieces of any size. Where the bytes of a record stand together, `record_at` takes it at once, as those steps would; `record_in` does so in a piece, which may begin inside a record.
+#![tactic(auto)]
+
 mod taking;
 
 ghost use Rattle.std.specs.Prelude.{◌≡◌};
@@ -12,7 +14,7 @@ use numbers::{Group, NUMBER_END, next_group};
 pub use taking::{NextRecord, glances_in, reader_at, record_at, record_in, rest_at};
 
 // Why a recording is bad.
-#[derive(Drop)]
+#[derive(Clone, Copy)]
 pub enum Fault {
     // A number is not in its shortest form, has more than five groups, or is not below 4,294,967,296.
     BadNumber,
@@ -39,7 +41,7 @@ impl Fault {
 }
 
 // A record: something that a session is given.
-#[derive(Drop)]
+#[derive(Clone, Copy)]
 pub enum Record {
     // Kind 0, a request to the dispenser.
     Request { code: u8, upper: u32, lower: u32 },
@@ -56,7 +58,7 @@ pub enum Record {
 }
 
 // What the next byte belongs to: a record's kind, or one of its numbers.
-#[derive(Drop)]
+#[derive(Clone, Copy)]
 pub enum Place {
     Kind,
     Code,
@@ -71,7 +73,7 @@ pub enum Place {
 }
 
 // A recording read so far.
-#[derive(Drop)]
+#[derive(Clone, Copy)]
 pub struct Reader {
     // Where the record begun has its kind byte; of a bad recording, the record in which that shows.
     pub start: u64,
@@ -85,7 +87,7 @@ pub struct Reader {
 }
 
 // What a byte brings.
-#[derive(Drop)]
+#[derive(Clone, Copy)]
 pub enum Outcome {
     More,
     Whole(Record),
@@ -94,14 +96,14 @@ pub enum Outcome {
 }
 
 // The step over one byte: what it leaves, and what it brings.
-#[derive(Drop)]
+#[derive(Clone, Copy)]
 pub struct Step {
     pub reader: Reader,
     pub outcome: Outcome,
 }
 
 // What is said of a recording.
-#[derive(Drop)]
+#[derive(Clone, Copy)]
 pub enum Verdict {
     Good,
     Bad(Fault, u64),

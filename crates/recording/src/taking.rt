@@ -9,14 +9,14 @@ ghost use Rattle.recording.specs.declared.taking.NextRecord.{NextRecord};
 use crate::{Fault, Outcome, Reader, Record, is_command, is_request};
 
 // What is found where a record is due: the record and how many bytes it has, or why there is none.
-#[derive(Drop)]
+#[derive(Clone, Copy)]
 pub enum NextRecord {
     Whole(Record, usize),
     Bad(Fault),
 }
 
 // What a glance at the bytes tells: what is found, or that they are to be read one by one.
-#[derive(Drop)]
+#[derive(Clone, Copy)]
 pub(crate) enum Glance {
     Sure(NextRecord),
     Longer,

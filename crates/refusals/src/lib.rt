@@ -1,4 +1,6 @@
 // What a call answers where it does not do its step: document 01's numbers, each with its sentence, and the enums that many calls answer with.
+#![tactic(auto)]
+
 ghost use Rattle.std.specs.Prelude.{◌≡◌};
 ghost use Rattle.refusals.specs.Numbers.{refusal_number, declined_number};
 
@@ -60,7 +62,7 @@ pub const UNKNOWN: u8 = 23;
 pub const LONG: u8 = 24;
 
 // Why a plain writer refuses.
-#[derive(Drop)]
+#[derive(Clone, Copy)]
 pub enum Refusal {
     // The room lent is under the length of what is to be written.
     Room,
@@ -81,14 +83,14 @@ impl Refusal {
 }
 
 // What a plain writer answers: how many bytes it put at the room's start, or why it put none.
-#[derive(Drop)]
+#[derive(Clone, Copy)]
 pub enum Put {
     Bytes(usize),
     Refused(Refusal),
 }
 
 // Why a call on a line is declined.
-#[derive(Drop)]
+#[derive(Clone, Copy)]
 pub enum Declined {
     // The room lent for sending is too small.
     Room,

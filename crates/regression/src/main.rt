@@ -1,5 +1,7 @@
 // Replays the example recordings that its arguments name, and holds the report of each to the one that it must give: in one piece, cut in two at every place, and byte by
 // byte. For an argument NAME the recording is NAME.rec and the report NAME.report, both in data/; NAME.txt says what the recording holds and what it shows.
+#![tactic(auto)]
+
 ghost use Rattle.std.specs.Prelude.{◌≤◌, length};
 
 use grading_rules::{Findings, Replaying};

@@ -1,5 +1,7 @@
 // Replays recordings: each file that an argument names, or standard input where there is no argument. The report of each goes to standard output, and
 // nothing else does. A file that cannot be opened or read, or an argument that is no path, gets one line on standard error, and no report.
+#![tactic(auto)]
+
 use grading_rules::Findings;
 use libc::{STDERR_FILENO, STDIN_FILENO, STDOUT_FILENO};
 use refusals::Put;

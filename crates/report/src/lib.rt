@@ -1,5 +1,7 @@
 // The report of a recording: the lines of document 01, "Recording and report", laid one behind the other. It sees the contracts of the crates below
 // and nothing else of them.
+#![tactic(auto)]
+
 ghost use Rattle.std.specs.Prelude.{◌≡◌, ◌++◌, ◌+◌, ◌≤◌, length};
 ghost use Rattle.bill_table.specs.Worth.{total_of};
 ghost use Rattle.refusals.specs.Put.{written, writing};

@@ -1,4 +1,6 @@
 // What the report of a recording is laid of: words, numbers, and the lines of a cassette, each behind what stands before it.
+#![tactic(auto)]
+
 ghost use Rattle.std.specs.Prelude.{◌++◌, ◌+◌, ◌≤◌, length};
 ghost use Rattle.numbers.specs.Decimal.{decimal};
 ghost use Rattle.error_codes.specs.Errors.{class_name};

@@ -1,5 +1,7 @@
 // Lists the paying requests that a replay keeps, oldest first: of each file that an argument names, or of standard input where there is no argument. One line for
 // each; a bad recording gets the one line of its report. A file that cannot be opened or read, or an argument that is no path, gets one line on standard error.
+#![tactic(auto)]
+
 use grading_rules::{Ending, Findings};
 use libc::{STDERR_FILENO, STDIN_FILENO};
 

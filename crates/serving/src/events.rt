@@ -8,7 +8,7 @@ use live_rules::{Entered, Entry};
 use recording::{Reader, Record};
 
 // A desk at work: the bytes of its recording, what is left of the quiet of a fresh start, and whether it can go on.
-#[derive(Drop)]
+#[derive(Clone, Copy)]
 struct Work {
     desk: Desk,
     written: u32,

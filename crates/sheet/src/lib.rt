@@ -1,5 +1,7 @@
 // What the bench programs share: the words of a sheet's lines, printing, and the room that is lent. These are a test's own tools: what they
 // print is compared.
+#![tactic(auto)]
+
 mod print;
 mod room;
 mod words;

@@ -1,4 +1,6 @@
 // A dispenser's answer, printed with its fields in 01's order. The bench programs share it.
+#![tactic(auto)]
+
 use dispenser_frame_rules::Answer;
 use error_codes::ErrorClass;
 

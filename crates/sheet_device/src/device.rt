@@ -5,7 +5,7 @@ use crate::{moves, way};
 use dispenser_frame_rules::Answer;
 use pretend_rules::{Device, Happening, Outcome, Reply};
 
-#[derive(Drop)]
+#[derive(Clone, Copy)]
 enum Call {
     Byte(u8),
     Tick(u32),

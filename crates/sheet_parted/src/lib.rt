@@ -5,6 +5,8 @@
 //     part at 37 record 12 student
 //     student 01 15
 //     reference end
+#![tactic(auto)]
+
 use parted::{Next, Parted, Whose};
 use recording::{Fault, NextRecord, record_at};
 use sheet::{at_most, print_bytes, print_number, print_text};

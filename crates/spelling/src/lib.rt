@@ -1,4 +1,6 @@
 // The words of a record, both ways: what is said of it, and the record that a line says. The sentences are those of `text`.
+#![tactic(auto)]
+
 mod lines;
 mod records;
 

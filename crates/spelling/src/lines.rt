@@ -4,7 +4,7 @@ use recording::Record;
 use text::{Heard, Said, hear, past_blanks};
 
 // What a line says next: a record, so many times, up to a place; nothing more; or something that is not understood.
-#[derive(Drop)]
+#[derive(Clone, Copy)]
 pub enum Spelled {
     Says {
         record: Record,

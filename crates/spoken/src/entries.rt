@@ -6,7 +6,7 @@ use recording::{Reader, Record};
 use words::Told;
 
 // A desk, and how many bytes its recording has.
-#[derive(Drop)]
+#[derive(Clone, Copy)]
 pub struct Live {
     pub desk: Desk,
     pub written: u32,
@@ -22,7 +22,7 @@ impl Live {
 }
 
 // What entering a record leaves: the desk, what the dispenser session answered, and what is told.
-#[derive(Drop)]
+#[derive(Clone, Copy)]
 pub struct Step {
     pub live: Live,
     pub reply: Reply,

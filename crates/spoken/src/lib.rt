@@ -1,4 +1,6 @@
 // What is said of a recording: each record entered and told, and its lines and its end on standard output.
+#![tactic(auto)]
+
 mod endings;
 mod entries;
 pub mod lines;

@@ -5,7 +5,7 @@ use text::{Said, byte, write};
 use words::Passing;
 
 // What the line at hand is of. It is written as far as it is known.
-#[derive(Drop)]
+#[derive(Clone, Copy)]
 pub enum Run {
     // Of nothing: the line has ended.
     Nothing,

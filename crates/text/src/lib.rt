@@ -1,4 +1,6 @@
 // The sentences of `explain`. Each stands once, in the table of `sentences`: `write` puts it into a lent room with its values, and `hear` finds it in a line, with its values.
+#![tactic(auto)]
+
 mod reading;
 mod sentences;
 mod writing;
@@ -7,7 +9,7 @@ pub use reading::{Heard, hear, past_blanks};
 pub use writing::{byte, bytes, write};
 
 // A sentence, and the values that stand in it, in their order.
-#[derive(Drop)]
+#[derive(Clone, Copy)]
 pub struct Said {
     pub sentence: usize,
     pub values: [u64; 4],

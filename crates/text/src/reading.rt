@@ -3,7 +3,7 @@ use crate::sentences::TABLE;
 use crate::writing::row;
 
 // Is it the sentence; where that ends in the line; and its values, of which so many were taken so far.
-#[derive(Drop)]
+#[derive(Clone, Copy)]
 pub struct Heard {
     pub is: bool,
     pub end: usize,

@@ -1,5 +1,7 @@
 // The line of the validator session as functions: waits, gathering, and when a frame is to be judged. It counts no bills; it carries the type that was last reported. What each
 // function must do stands in `validator_rules`. Document 01, "The validator session".
+#![tactic(auto)]
+
 ghost use Rattle.std.specs.Prelude.{◌≡◌};
 ghost use Rattle.validator_rules.specs.Line.{opened, closed, remembers, inside, waits, is_open, start_byte, address_byte, length_byte, further_byte, answer_byte, heard, expired, passed};
 

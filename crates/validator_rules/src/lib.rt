@@ -1,4 +1,6 @@
 // The validator session: what it is, and what is promised of it. Document 01, "The validator session".
+#![tactic(auto)]
+
 mod bills;
 mod line;
 mod session;

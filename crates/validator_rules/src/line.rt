@@ -1,7 +1,7 @@
 // The line: where it stands, and what it says is to be done.
 
 // Where the line stands: nothing open; waiting for an answer to start; inside an answer.
-#[derive(Drop)]
+#[derive(Clone, Copy)]
 pub enum Phase {
     Idle,
     Start,
@@ -9,7 +9,7 @@ pub enum Phase {
 }
 
 // What changes with each byte and tick. Waits are counted down, idle too: 0 is a line that has been quiet long enough.
-#[derive(Drop)]
+#[derive(Clone, Copy)]
 pub struct Line {
     // Milliseconds left of the wait, or of the quiet that the next command needs.
     pub left: u64,
@@ -28,7 +28,7 @@ pub struct Line {
 }
 
 // What is to be done when time has passed.
-#[derive(Drop)]
+#[derive(Clone, Copy)]
 pub enum Todo {
     Nothing,
     // Send NAK, and close as damaged.
@@ -37,14 +37,14 @@ pub enum Todo {
     CloseSilent,
 }
 
-#[derive(Drop)]
+#[derive(Clone, Copy)]
 pub struct Turn {
     pub line: Line,
     pub todo: Todo,
 }
 
 // What a byte is. One enum without data, and not one that holds a `Todo`: that would cost a replay of polls a fifth of its time.
-#[derive(Drop)]
+#[derive(Clone, Copy)]
 pub enum Heard {
     // No byte of an answer.
     Skip,
@@ -56,7 +56,7 @@ pub enum Heard {
     Wrong,
 }
 
-#[derive(Drop)]
+#[derive(Clone, Copy)]
 pub struct Hearing {
     pub line: Line,
     pub heard: Heard,

@@ -8,7 +8,7 @@ use ccnet_class::Class;
 use refusals::Declined;
 
 // How a call closed the open command, if it did.
-#[derive(Drop)]
+#[derive(Clone, Copy)]
 pub enum Closing {
     Nothing,
     // By ACK.
@@ -23,14 +23,14 @@ pub enum Closing {
 }
 
 // What a call answers: why it was declined, or how many bytes it put at the room's start and which closing it made.
-#[derive(Drop)]
+#[derive(Clone, Copy)]
 pub enum Reply {
     NotDone(Declined),
     Done { put: usize, closing: Closing },
 }
 
 // What a step leaves.
-#[derive(Drop)]
+#[derive(Clone, Copy)]
 pub struct Step {
     pub line: Line,
     // The type of the bill that it credits; none, that is 24, where it credits none.
@@ -39,7 +39,7 @@ pub struct Step {
 }
 
 // The session: the line, the bills of each type, the gathering store and the last bill table read.
-#[derive(Drop)]
+#[derive(Clone, Copy)]
 pub struct Session {
     pub line: Line,
     pub bills: [Bills; 24],
@@ -49,14 +49,14 @@ pub struct Session {
 }
 
 // What a call by value leaves.
-#[derive(Drop)]
+#[derive(Clone, Copy)]
 pub struct Outcome {
     pub session: Session,
     pub reply: Reply,
 }
 
 // A gathered frame is bad, or good with what its body says.
-#[derive(Drop)]
+#[derive(Clone, Copy)]
 pub enum Found {
     Bad,
     Good(Class),

@@ -1,4 +1,6 @@
 // Frames of the four-cassette unit (VCDM), both sides of the line: commands and answers, written and read. Document 02, Q-3, and 000.
+#![tactic(auto)]
+
 mod answer;
 mod command;
 

@@ -2,14 +2,14 @@
 use xor_frame::Fault;
 
 // What an answer says of one cassette: the notes that went out, those rejected, and the byte that names the cassette.
-#[derive(Drop)]
+#[derive(Clone, Copy)]
 pub struct Paid {
     pub exit: u32,
     pub rejects: u32,
     pub kind: u8,
 }
 
-#[derive(Drop)]
+#[derive(Clone, Copy)]
 pub struct Cassettes {
     pub top: Paid,
     pub second: Paid,
@@ -18,7 +18,7 @@ pub struct Cassettes {
 }
 
 // The nine reserved bytes behind the cassettes, in their order.
-#[derive(Drop)]
+#[derive(Clone, Copy)]
 pub struct Spare {
     pub a: u8,
     pub b: u8,
@@ -32,7 +32,7 @@ pub struct Spare {
 }
 
 // What a status says of one position: STAT, TYPE, OPAC and LENG.
-#[derive(Drop)]
+#[derive(Clone, Copy)]
 pub struct Place {
     pub stat: u8,
     pub kind: u8,
@@ -40,7 +40,7 @@ pub struct Place {
     pub length: u8,
 }
 
-#[derive(Drop)]
+#[derive(Clone, Copy)]
 pub struct Places {
     pub top: Place,
     pub second: Place,
@@ -49,7 +49,7 @@ pub struct Places {
 }
 
 // An answer of the unit.
-#[derive(Drop)]
+#[derive(Clone, Copy)]
 pub enum Answer {
     Reset {
         error: u8,
@@ -83,7 +83,7 @@ pub enum Answer {
 }
 
 // What reading an answer frame finds.
-#[derive(Drop)]
+#[derive(Clone, Copy)]
 pub enum AnswerRead {
     Read(Answer),
     Refused(Fault),

@@ -2,7 +2,7 @@
 use xor_frame::Fault;
 
 // A count for each cassette, the top one first, as 000 names them.
-#[derive(Drop)]
+#[derive(Clone, Copy)]
 pub struct Counts {
     pub top: u32,
     pub second: u32,
@@ -11,7 +11,7 @@ pub struct Counts {
 }
 
 // What reading a command frame finds. Where no notes are asked each count is 0, and so is the serial.
-#[derive(Drop)]
+#[derive(Clone, Copy)]
 pub enum CommandRead {
     Read {
         code: u8,

@@ -1,5 +1,7 @@
 // Frames of the four-cassette unit (VCDM), both sides of the line, as rules: the table of codes, what a command and an answer say, their layouts, and what is promised of
 // writing and reading them. Document 02, Q-3, and 000.
+#![tactic(auto)]
+
 mod answer;
 mod command;
 mod table;

@@ -4,7 +4,7 @@ ghost use Rattle.vcdm_rules.specs.Account.{fresh_account};
 
 use exchange_rules::Sums;
 
-#[derive(Drop)]
+#[derive(Clone, Copy)]
 pub struct Account {
     pub top: Sums,
     pub second: Sums,

@@ -9,7 +9,7 @@ use vcdm_frame_rules::{Answer, Counts, FIRST_SERIAL};
 
 // The command that is open, or was last: its code, the notes asked of each cassette (0 where none are), its serial (0 where it has none), and the length of its
 // answer.
-#[derive(Drop)]
+#[derive(Clone, Copy)]
 pub struct Asked {
     pub code: u8,
     pub counts: Counts,
@@ -19,7 +19,7 @@ pub struct Asked {
 
 // What an answer is to the command that is open: another command's or another dispense's; its answer; or an answer which says that the serial was repeated, so that
 // nothing was paid by this request.
-#[derive(Drop)]
+#[derive(Clone, Copy)]
 pub enum Finding {
     Bad,
     Good,
@@ -27,7 +27,7 @@ pub enum Finding {
 }
 
 // How a call closed the open command, if it did.
-#[derive(Drop)]
+#[derive(Clone, Copy)]
 pub enum Closing {
     Nothing,
     // With the answer that was read.
@@ -37,21 +37,21 @@ pub enum Closing {
 }
 
 // What a call answers: why it was declined, or how many bytes it put at the room's start and which closing it made.
-#[derive(Drop)]
+#[derive(Clone, Copy)]
 pub enum Reply {
     NotDone(Declined),
     Done { put: usize, closing: Closing },
 }
 
 // What a byte or a tick leaves.
-#[derive(Drop)]
+#[derive(Clone, Copy)]
 pub struct Step {
     pub line: Line,
     pub reply: Reply,
 }
 
 // What a request leaves.
-#[derive(Drop)]
+#[derive(Clone, Copy)]
 pub struct Opening {
     pub line: Line,
     pub asked: Asked,
@@ -60,7 +60,7 @@ pub struct Opening {
 }
 
 // The session: the line, the command, the account, the gathering store, and the serial that the next dispense takes.
-#[derive(Drop)]
+#[derive(Clone, Copy)]
 pub struct Session {
     pub line: Line,
     pub asked: Asked,
@@ -70,7 +70,7 @@ pub struct Session {
 }
 
 // What a call by value leaves.
-#[derive(Drop)]
+#[derive(Clone, Copy)]
 pub struct Outcome {
     pub session: Session,
     pub reply: Reply,

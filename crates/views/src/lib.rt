@@ -1,12 +1,14 @@
 // Where a session stands, for whoever tells it to a student: what it waits for, how long it has waited and how long it may, how often a command was handed over. Read off the session's own
 // fields, and proved to be what the history of calls says.
+#![tactic(auto)]
+
 ghost use Rattle.std.specs.Prelude.{◌≡◌, cond, ltb, ◌-◌};
 ghost use Rattle.views.specs.View.{idle, busy, answering, start_limit, dispenser_view, validator_view};
 
 use exchange_rules::{Line, Phase};
 
 // What a line waits for. With nothing open that is quiet, before the next command.
-#[derive(Drop)]
+#[derive(Clone, Copy)]
 pub struct View {
     pub phase: Phase,
     // Milliseconds waited so far, up to the limit.

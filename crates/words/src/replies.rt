@@ -15,7 +15,7 @@ pub(crate) fn dispenser_closed(closing: dispenser_rules::Closing) -> Said {
 }
 
 // The fields of an answer, in 01's order: its counts, its error, and the rest.
-#[derive(Drop)]
+#[derive(Clone, Copy)]
 pub(crate) struct Fields {
     pub counts: Said,
     pub error: Said,

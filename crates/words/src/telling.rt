@@ -12,7 +12,7 @@ use validator_rules::Bills;
 use views::View;
 
 // What the sessions look like: where each line stands, and what is booked.
-#[derive(Drop)]
+#[derive(Clone, Copy)]
 pub struct Looks {
     pub dispenser: View,
     pub validator: View,
@@ -35,7 +35,7 @@ pub fn look(desk: Desk) -> Looks {
 }
 
 // What became of a byte that no session kept: it was none, or it was ignored or skipped.
-#[derive(Drop)]
+#[derive(Clone, Copy)]
 pub enum Passing {
     No,
     Ignored,
@@ -43,7 +43,7 @@ pub enum Passing {
 }
 
 // What is told of a record: where it ends in the room, and where that ends which the sessions did, before what merely became of a byte; and whether the record was a byte that no session kept.
-#[derive(Drop)]
+#[derive(Clone, Copy)]
 pub struct Told {
     pub end: usize,
     pub deeds: usize,

@@ -89,7 +89,7 @@ pub(crate) fn is_same(before: View, after: View) -> bool {
 }
 
 // The wait that ended and the one that began, where the line waits for something else than before.
-#[derive(Drop)]
+#[derive(Clone, Copy)]
 pub(crate) struct Waits {
     pub ended: Said,
     pub begun: Said,

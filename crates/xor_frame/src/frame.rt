@@ -18,7 +18,7 @@ pub const STX: u8 = 0x02;
 pub const ETX: u8 = 0x03;
 
 // Why a reader refuses a frame.
-#[derive(Drop)]
+#[derive(Clone, Copy)]
 pub enum Fault {
     // The frame's length is wrong.
     Length,
@@ -82,7 +82,7 @@ pub fn lay(bytes: &[u8], room: &mut [u8]) -> usize
 }
 
 // What the tests before the fields find.
-#[derive(Drop)]
+#[derive(Clone, Copy)]
 pub enum Verdict {
     Good,
     Bad(Fault),
@@ -133,7 +133,7 @@ pub fn both(a: bool, b: bool) -> bool
 }
 
 // A count's two digits.
-#[derive(Drop)]
+#[derive(Clone, Copy)]
 pub struct Digits {
     pub tens: u8,
     pub ones: u8,
