@@ -1,8 +1,7 @@
 // Inputs of the programs, read whole into a lent room.
-
-// Reads until the room is full or the input ends, and answers how many bytes that were, or -1 where a read fails.
 #![tactic(auto)]
 
+// Reads until the room is full or the input ends, and answers how many bytes that were, or -1 where a read fails.
 pub fn read_all(fd: i32, room: &mut [u8]) -> isize {
     let mut at: usize = 0;
     while at < room.len() {

@@ -281,5 +281,6 @@ live-is-replay =
       after = λ k cs h. calls-replay cs k h;
       reported = reports;
       size = λ k h. size_of k.recording (fed_piece fresh_replay k.recording) k.desk k.written h (on-fed k.recording);
-      full = λ k c h. long-when k h c;
+      full = λ k c h. full-when k h c;
+      numbered = λ k c h. long-when k h c;
     }

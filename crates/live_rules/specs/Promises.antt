@@ -66,7 +66,7 @@ resumed s =
     record { desk = w.desk; written = n; recording = take n s }
 
 -- "replaying the recording so far gives this very desk": at first, where a recording is taken up again, and after any calls at all. So the report of the recording is told by
--- the desk; and a record is refused with 24 exactly where the recording would be over the limit
+-- the desk; and a record is refused for length, with 24, exactly where the recording would be over the limit
 pub record LiveIsReplay : Type 0 where
   pub at_first : Replays fresh_work
   pub taken-up : (s : List ℕ) → ((why : Fault) (at : ℕ) → fed_piece fresh_replay s ≡ broken_at why at → ⊥) → Replays (resumed s)
@@ -74,5 +74,8 @@ pub record LiveIsReplay : Type 0 where
   pub reported : (k : Work) → Replays k → replay_of k.recording ≡ told k.desk
   pub size : (k : Work) → Replays k → k.written ≡ length k.recording
   pub full : (k : Work) (c : Call) → Replays k
+      → ((noted_by k.written k.desk.records k.desk.declined c.given c.out).entry ≡ Full)
+      ↔ (most_bytes < k.written + length (record_bytes c.given))
+  pub numbered : (k : Work) (c : Call) → Replays k
       → (entry_number (noted_by k.written k.desk.records k.desk.declined c.given c.out).entry ≡ too_long)
       ↔ (most_bytes < k.written + length (record_bytes c.given))
