@@ -1,0 +1,21 @@
+-- `bill_table::lay` meets its contract: the room's first i bytes, and the bytes left laid from there on, are all the bytes laid from the start. Assumes nothing.
+use mathlib.Core.Path.{◌≡◌, refl, ◌∙◌}
+use mathlib.Core.List.{◌++◌}
+use Prim.Native.Nat.{◌-◌, ◌≤◌, ◌<◌}
+use native.Mathlib.Numerals.{add-one}
+use native.Mathlib.Omega.{arith}
+use lib.ListN.{length, take, drop, length-set, take-append-drop}
+use lib.Seq.{drop-cons, drop-length}
+use Rattle.refusals.specs.Put.{over}
+use Rattle.refusals.proofs.Writing.{over-one}
+use borrow.Author.Rules.{rules}
+use Rattle.bill_table.proofs.lay.Given as goal
+
+abbrev pub invariant-loop-i : goal.invariant-loop-i
+invariant-loop-i l =
+    (l.i ≤ length l.bytes)
+    × (length l.room ≡ length l.initial.room)
+    × (take l.i l.room ++ over (drop l.i l.bytes) (drop l.i l.room) ≡ over l.bytes l.initial.room)
+
+abbrev pub decreases-loop-i : goal.decreases-loop-i
+decreases-loop-i l = length l.bytes - l.i

@@ -1,0 +1,6 @@
+-- `ccnet_class::is_type` meets its contract. Assumes nothing.
+use borrow.Author.Rules.{rules}
+use Rattle.ccnet_class.proofs.is_type.Goals as goal
+
+pub returns : goal.returns
+returns c = c.byte_within.ensures

@@ -1,0 +1,46 @@
+-- `ccnet_wide::write` meets its contract: what was planned is what is written. Assumes nothing.
+use mathlib.Core.Path.{sym, ap, ◌∙◌}
+use Prim.Native.Nat.{◌+◌}
+use lib.ListN.{length}
+use Rattle.ccnet_wide.proofs.Frames.{lead-most}
+use Rattle.ccnet_wide.proofs.Planned.{wide-refused, wide-fit}
+use native.Mathlib.Omega.{arith}
+use borrow.Author.Rules.{rules}
+use Rattle.ccnet_wide.proofs.write.Goals as goal
+
+pub overflow_add-length : goal.overflow_add-length
+overflow_add-length c = omega (arith, c.lead_size.ensures, lead-most c.args.lead)
+
+pub overflow_add-length-2 : goal.overflow_add-length-2
+overflow_add-length-2 c = omega (arith, c.lead_size.ensures, lead-most c.args.lead, c.before.before.before.well-formed.1.1.0.1)
+
+pub overflow_cast-n : goal.overflow_cast-n
+overflow_cast-n c =
+    let args = c.args in
+    let plan = sym c.plan.ensures ∙ c.in-Bytes.is in
+    let long = ap (λ k. 7 + k + length args.given.now) c.lead_size.ensures in
+    let fit = wide-fit args.address args.lead args.given.now args.room.now _ _ _ long c.is_wide.ensures plan in
+    omega (arith, fit.most)
+
+pub lay_wide-requires : goal.lay_wide-requires
+lay_wide-requires c =
+    let args = c.args in
+    let plan = sym c.plan.ensures ∙ c.in-Bytes.is in
+    let long = ap (λ k. 7 + k + length args.given.now) c.lead_size.ensures in
+    let fit = wide-fit args.address args.lead args.given.now args.room.now _ _ _ long c.is_wide.ensures plan in
+    omega (arith, fit.long, fit.holds)
+
+pub returns-in-Bytes : goal.returns-in-Bytes
+returns-in-Bytes c =
+    let args = c.args in
+    let plan = sym c.plan.ensures ∙ c.in-Bytes.is in
+    let long = ap (λ k. 7 + k + length args.given.now) c.lead_size.ensures in
+    let fit = wide-fit args.address args.lead args.given.now args.room.now _ _ _ long c.is_wide.ensures plan in
+    fit.writes _ c.lay_wide.ensures
+
+pub returns-in-Refused : goal.returns-in-Refused
+returns-in-Refused c =
+    let args = c.args in
+    let plan = sym c.plan.ensures ∙ c.in-Refused.is in
+    let long = ap (λ k. 7 + k + length args.given.now) c.lead_size.ensures in
+    wide-refused args.address args.lead args.given.now args.room.now _ _ _ long c.is_wide.ensures plan

@@ -1,0 +1,8 @@
+-- `dispenser::session::tick` meets its contract. Assumes nothing.
+use Rattle.dispenser_rules.specs.Session.{session_tick}
+use borrow.Author.Rules.{rules}
+use Rattle.dispenser.proofs.session.tick.Goals as goal
+
+pub returns : goal.returns
+unfolding session_tick
+returns c = simp (← c.step_tick-step.ensures, c.heard-books.ensures)

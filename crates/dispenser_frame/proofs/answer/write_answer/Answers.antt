@@ -1,0 +1,27 @@
+-- `dispenser_frame::answer::write_answer` meets its contract. Assumes nothing.
+use mathlib.Core.Path.{ap, ◌∙◌}
+use borrow.Author.Tests.{lt-ltb, le-ltb}
+use Rattle.dispenser_frame_rules.specs.Table.{answer_length}
+use Rattle.dispenser_frame_rules.specs.Answer.{write_answer, answer_refusals}
+use Rattle.dispenser_frame_rules.proofs.Codes.{answer-sized}
+use native.Mathlib.Omega.{arith}
+use borrow.Author.Rules.{rules}
+use Rattle.dispenser_frame.proofs.answer.write_answer.Goals as goal
+
+pub returns-then-room-n : goal.returns-then-room-n
+unfolding write_answer answer_refusals
+returns-then-room-n c = simp (← c.code_of.ensures, ← c.answer_length-n.ensures, lt-ltb _ _ c.if-room-n.true)
+
+pub lay_answer-requires : goal.lay_answer-requires
+lay_answer-requires c =
+    let k = answer-sized c.args.answer in
+    let e = c.answer_length-n.ensures ∙ ap answer_length c.code_of.ensures in
+    omega arith
+
+pub returns-then-fits : goal.returns-then-fits
+unfolding write_answer answer_refusals
+returns-then-fits c = simp (← c.code_of.ensures, ← c.answer_length-n.ensures, le-ltb _ _ c.if-room-n.false, ← c.fits.ensures, c.if-fits.true) c.lay_answer.ensures
+
+pub returns : goal.returns
+unfolding write_answer answer_refusals
+returns c = simp (← c.code_of.ensures, ← c.answer_length-n.ensures, le-ltb _ _ c.if-room-n.false, ← c.fits.ensures, c.if-fits.false)

@@ -1,0 +1,20 @@
+-- `grading::desk::feed` meets its contract. Assumes nothing.
+use mathlib.Core.Path.{◌∙◌}
+use native.Mathlib.Omega.{arith}
+use Rattle.grading.proofs.Loops.{empty-fed, unbroken, broken-fed}
+use borrow.Author.Rules.{rules}
+use Rattle.grading.proofs.desk.feed.Goals as goal
+
+pub returns-then-piece-eq0 : goal.returns-then-piece-eq0
+returns-then-piece-eq0 c = empty-fed c.args.replay c.args.piece.now c.if-piece-eq0.true
+
+pub within-requires : goal.within-requires
+within-requires c =
+    (c.requires, (unbroken c.args.replay.reader.place c.in_default.keys2, omega (arith, c.if-piece-eq0.false)))
+
+pub returns-in-Broken : goal.returns-in-Broken
+returns-in-Broken c =
+    c.broken.ensures ∙ broken-fed c.args.replay c.args.piece.now c.in-Broken.is (omega (arith, c.if-piece-eq0.false))
+
+pub returns-in_default : goal.returns-in_default
+returns-in_default c = c.within.ensures

@@ -1,0 +1,24 @@
+-- `live::enter` meets its contract. Assumes nothing.
+use Rattle.live.proofs.Entries.{can-grow, was-entered, was-kept}
+use borrow.Author.Rules.{rules}
+use mathlib.Core.Path.{refl}
+use Rattle.live.proofs.entry.enter.Goals as goal
+
+pub step-lived-requires : goal.step-lived-requires
+step-lived-requires c =
+    let args = c.args in
+    let note = c.note-entry in
+    can-grow args.written args.desk.records args.desk.declined args.x args.out.now note.result _ _ note.ensures c.in-Bytes.is
+
+pub returns-in-Bytes : goal.returns-in-Bytes
+returns-in-Bytes c =
+    let args = c.args in
+    let note = c.note-entry in
+    was-entered args.desk args.written args.x args.out.now args.room.now args.room255.now note.result _ note.ensures c.step-lived.result _ _ _
+    c.in-Bytes.is c.step-lived.ensures
+
+pub returns-in_default : goal.returns-in_default
+returns-in_default c =
+    let args = c.args in
+    let note = c.note-entry in
+    was-kept args.desk args.written args.x args.out.now args.room.now args.room255.now note.result _ note.ensures c.in_default.keys2 _ refl

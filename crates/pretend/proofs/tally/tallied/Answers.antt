@@ -1,0 +1,6 @@
+-- `pretend::tally::tallied` meets its contract. Assumes nothing.
+use borrow.Author.Rules.{rules}
+use Rattle.pretend.proofs.tally.tallied.Goals as goal
+
+pub returns-in-Done : goal.returns-in-Done
+returns-in-Done c = rw c.in-Done.is c.told.ensures

@@ -1,0 +1,6 @@
+-- `recording::whole` meets its contract. Assumes nothing.
+use borrow.Author.Rules.{rules}
+use Rattle.recording.proofs.whole.Goals as goal
+
+pub returns : goal.returns
+returns c = simp c.fresh.ensures

@@ -1,0 +1,11 @@
+-- `report::put_bad` meets its contract. Assumes nothing.
+use Rattle.report_lines.proofs.Lines.{line-added}
+use borrow.Author.Rules.{rules}
+use native.Mathlib.Omega.{arith}
+use Rattle.report.proofs.put_bad.Goals as goal
+
+pub returns : goal.returns
+returns c =
+    let a = c.put_field-a.ensures in
+    let r = c.put_line.ensures in
+    simp (← c.number.ensures) (line-added _ _ a.0 r.0, omega (arith, a.1, r.1))

@@ -1,0 +1,13 @@
+-- `report_lines::put_error` meets its contract. Assumes nothing.
+use Rattle.report_lines.proofs.Adding.{adds_then}
+use Rattle.report_lines.proofs.Lines.{line-added}
+use native.Mathlib.Omega.{arith}
+use borrow.Author.Rules.{rules}
+use Rattle.report_lines.proofs.put_error.Goals as goal
+
+pub returns : goal.returns
+returns c =
+    let a = c.put-a.ensures in
+    let b = c.put_name-b.ensures in
+    let e = c.put.ensures in
+    (line-added _ _ a (adds_then b.0 e), omega (arith, a.ends, b.1, e.ends))

@@ -1,0 +1,11 @@
+-- `report_lines::put_line` meets its contract. Assumes nothing.
+use Rattle.report_lines.proofs.Adding.{adds_then}
+use borrow.Author.Rules.{rules}
+use native.Mathlib.Omega.{arith}
+use Rattle.report_lines.proofs.put_line.Goals as goal
+
+pub returns : goal.returns
+returns c =
+    let a = c.put_field-a.ensures in
+    let e = c.put.ensures in
+    (adds_then a.0 e, omega (arith, a.1, e.ends))

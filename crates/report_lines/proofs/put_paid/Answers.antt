@@ -1,0 +1,16 @@
+-- `report_lines::put_paid` meets its contract. Assumes nothing.
+use Rattle.report_lines.specs.Lines.{paid_part}
+use Rattle.report_lines.proofs.Adding.{adds_then}
+use borrow.Author.Rules.{rules}
+use native.Mathlib.Omega.{arith}
+use Rattle.report_lines.proofs.put_paid.Goals as goal
+
+pub returns : goal.returns
+unfolding paid_part
+returns c =
+    let f = c.put_field.ensures in
+    let e = c.put_field-d.ensures in
+    let d = c.put_field-c.ensures in
+    let a = c.put_field-b.ensures in
+    let p = c.put-a.ensures in
+    (adds_then p (adds_then a.0 (adds_then d.0 (adds_then e.0 f.0))), omega (arith, p.ends, a.1, d.1, e.1, f.1, c.requires.1))

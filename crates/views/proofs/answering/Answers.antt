@@ -1,0 +1,6 @@
+-- `views::answering` meets its contract: the validator's answer. Assumes nothing.
+use borrow.Author.Rules.{rules}
+use Rattle.views.proofs.answering.Goals as goal
+
+pub returns : goal.returns
+returns c = simp (← c.length_told.ensures, ← c.waited.ensures)

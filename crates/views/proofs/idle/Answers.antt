@@ -1,0 +1,6 @@
+-- `views::idle` meets its contract: a line with nothing open. Assumes nothing.
+use borrow.Author.Rules.{rules}
+use Rattle.views.proofs.idle.Goals as goal
+
+pub returns : goal.returns
+returns c = simp (← c.waited.ensures)

@@ -1,0 +1,6 @@
+-- `xor_frame::frame::two_digits` meets its contract. Assumes nothing.
+use borrow.Author.Rules.{rules}
+use Rattle.xor_frame.proofs.frame.two_digits.Goals as goal
+
+pub returns : goal.returns
+returns c = rw (c.digit.ensures, c.digit-2.ensures)
