@@ -14,14 +14,14 @@ pub starred : Starred
 unfolding command_frame dispenser.frame dispenser.closed dispenser.check dispenser.check_from all_bytes digits table line_in groups groups_in ccnet.frame ccnet.closed ccnet-check.check ccnet-check.check_from ccnet-check.turns ccnet-check.turn
 starred =
     record {
-      ten-upper = refl;
-      fifteen-lower = refl;
-      fifteen-and-fifteen = refl;
+      ten_upper = refl;
+      fifteen_lower = refl;
+      fifteen_and_fifteen = refl;
       purge = refl;
       status = refl;
       poll = refl;
       ack = refl;
       reset = refl;
       nak = refl;
-      one-thousand = refl;
+      one_thousand = refl;
     }

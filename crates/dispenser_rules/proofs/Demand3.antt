@@ -59,8 +59,8 @@ after-calls cs = run-kept lawful session fresh_session [] cs fresh_kept
 pub always-sound : AlwaysSound
 always-sound cs = (after-calls cs).sound
 
-pub never-cut : NeverCut
-never-cut cs c =
+pub never_cut : NeverCut
+never_cut cs c =
     let k = (after-calls cs).sound in
     let s = run host fresh_session cs in
     let few : settled s.line.phase s.line.accepted ≤ command_limit = le_trans (settled-most s.line.phase s.line.accepted) k.commands in

@@ -14,7 +14,7 @@ use Rattle.refusals.proofs.Writing.{take-over}
 use Rattle.refusals.proofs.Rules.{by_cases, either_way, certain, holds-true, fails-false}
 use Rattle.ledger.specs.Events.{Deed, asks, hears, waits, own, goes_on, closes as closes_by, done, History, is_frame, bytes}
 use Rattle.ledger.specs.Line.{is_open}
-use Rattle.ledger.specs.Account.{Ending, answered, refused, unknown, Fate, waiting, answered-by, turned_down, in-doubt, fate_after, last_of, Command, commands, counted}
+use Rattle.ledger.specs.Account.{Ending, answered, refused, unknown, Fate, waiting, answered_by, turned_down, in_doubt, fate_after, last_of, Command, commands, counted}
 use Rattle.ledger.specs.Calls.{told, seen, run, history_from}
 use Rattle.ledger.specs.Told.{Closing as PlainClosing, none, Due, nothing, due_by, while_open, Answers, AnsweredBy}
 use Rattle.ledger.proofs.Laws.{OnLine, line-open, commands-still, commands-own, commands-again, commands-closed}
@@ -109,7 +109,7 @@ handed-first ks = (newest-of ks).handed
 
 -- ---- what an answer says was paid
 
-paid-same : (answer : Answer) (f : List ℕ) → Says answer f → paid_by answer ≡ stands (answered-by f) (answer_code answer)
+paid-same : (answer : Answer) (f : List ℕ) → Says answer f → paid_by answer ≡ stands (answered_by f) (answer_code answer)
 paid-same (Purged e) f y = refl
 paid-same (PaidOne Upper chk x e s r) f y = ap (λ (n : ℕ). WasAnswered (notes n) (notes 0)) y.0
 paid-same (PaidOne Lower chk x e s r) f y = ap (λ (n : ℕ). WasAnswered (notes 0) (notes n)) y.0
@@ -236,7 +236,7 @@ module _ (s : Session) (h : History Request Own Ending) (k : Kept lawful session
           ap newest-of (sym (closed-split n answered (c refl).0 x)) ∙ same in
           closed-holds n answered (c refl).0 (c refl).1 x (paid_by answer)
           (paid-same answer w.frame (says w.frame answer class g.read)
-          ∙ ap (stands (answered-by w.frame)) g.same_code
+          ∙ ap (stands (answered_by w.frame)) g.same_code
           ∙ ap (λ (f : Fate). stands f code) (sym w.fate)
           ∙ ap (λ (k : Command Request). stands k.fate k.asks.code) (sym is))
       heard-holds (Done n Refused) t c y a =

@@ -8,7 +8,7 @@ use native.Mathlib.Omega.{arith}
 use lib.Dec.{eqb}
 use lib.ListN.{take}
 use Rattle.ledger.specs.Events.{Deed, asks, hears, waits, own, Left, goes_on, closes, declined, done, History}
-use Rattle.ledger.specs.Account.{Ending, answered, refused, unknown, Fate, waiting, answered-by, turned_down, in-doubt, fate_after, Command, followed, commands, counted, last_of}
+use Rattle.ledger.specs.Account.{Ending, answered, refused, unknown, Fate, waiting, answered_by, turned_down, in_doubt, fate_after, Command, followed, commands, counted, last_of}
 use Rattle.ledger.specs.Calls.{told, seen, history_from}
 use Rattle.ledger.specs.Told.{by_answer, AnsweredBy, Verdict, good}
 use Rattle.exchange_rules.specs.Machine.{discipline}
@@ -50,18 +50,18 @@ Unanswered (closes unknown) = Unit {0}
 fate-kept : (left : Left Ending) → Unanswered left → (f : List ℕ) (x : Fate) (code : ℕ) (c : Cassette) (older : LastError)
     → told_by (fate_after left f x) code c older ≡ told_by x code c older
 fate-kept goes_on u f waiting code c older = refl
-fate-kept goes_on u f (answered-by g) code c older = refl
+fate-kept goes_on u f (answered_by g) code c older = refl
 fate-kept goes_on u f turned_down code c older = refl
-fate-kept goes_on u f in-doubt code c older = refl
+fate-kept goes_on u f in_doubt code c older = refl
 fate-kept (closes answered) u f x code c older = absurd u
 fate-kept (closes refused) u f waiting code c older = refl
-fate-kept (closes refused) u f (answered-by g) code c older = refl
+fate-kept (closes refused) u f (answered_by g) code c older = refl
 fate-kept (closes refused) u f turned_down code c older = refl
-fate-kept (closes refused) u f in-doubt code c older = refl
+fate-kept (closes refused) u f in_doubt code c older = refl
 fate-kept (closes unknown) u f waiting code c older = refl
-fate-kept (closes unknown) u f (answered-by g) code c older = refl
+fate-kept (closes unknown) u f (answered_by g) code c older = refl
 fate-kept (closes unknown) u f turned_down code c older = refl
-fate-kept (closes unknown) u f in-doubt code c older = refl
+fate-kept (closes unknown) u f in_doubt code c older = refl
 
 followed-kept : (put : List ℕ) (left : Left Ending) → Unanswered left → (l : List ℕ) (ks : List (Command Request)) (c : Cassette)
     → last_error_in (followed model2000_t put left l ks) c ≡ last_error_in ks c
@@ -87,9 +87,9 @@ done-kept (own o) put left u h c = followed-kept put left u _ (commands model200
 -- a command whose answer does not speak of the cassette tells nothing of it
 silent : (x : Fate) (code : ℕ) (c : Cassette) (older : LastError) → tells code c ≡ false → told_by x code c older ≡ older
 silent waiting code c older n = refl
-silent (answered-by f) code c older n = ap (λ (t : Bool). cond t (Of (error_class (error_in f))) older) n
+silent (answered_by f) code c older n = ap (λ (t : Bool). cond t (Of (error_class (error_in f))) older) n
 silent turned_down code c older n = refl
-silent in-doubt code c older n = refl
+silent in_doubt code c older n = refl
 
 followed-behind : (put : List ℕ) (left : Left Ending) (l : List ℕ) (js : List (Command Request)) (k : Command Request) (ks : List (Command Request))
     → followed model2000_t put left l js ≡ k ∷ ks → (c : Cassette) → tells k.asks.code c ≡ false → last_error_in ks c ≡ last_error_in js c

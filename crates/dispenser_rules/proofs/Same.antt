@@ -15,7 +15,7 @@ use Rattle.dispenser_frame_rules.specs.declared.answer.AnswerRead.{AnswerRead}
 use Rattle.dispenser_frame_rules.specs.declared.answer.AnswerRead.TheVariants.{Read, Refused as NotRead}
 use Rattle.exchange_rules.specs.Limits.{quiet}
 use Rattle.exchange_rules.specs.Exchange.{heard, bad_frame, passed, closed, ends}
-use Rattle.ledger.specs.Told.{good, bad, by-refusal, by-doubt, ending as plain-ending}
+use Rattle.ledger.specs.Told.{good, bad, by_refusal, by_doubt, ending as plain-ending}
 use Rattle.exchange_rules.specs.Machine.{Box, left}
 use Rattle.exchange_rules.specs.Owed.{saying, Session as SessionOver}
 use Rattle.exchange_rules.specs.Machine as machine
@@ -74,9 +74,9 @@ module _ (q : Request) (r : List ℕ) where
   acted-same Rest l e = refl
   acted-same HandOver l e = refl
   acted-same Nak l e = refl
-  acted-same LastNak l e = ap (λ (m : Line). machine.done_after (counting unknown m) 1 by-doubt (set r 0 0x15)) (sym e)
-  acted-same CloseRefused l e = ap (λ (m : Line). machine.done_after (counting refused m) 0 by-refusal r) (sym e)
-  acted-same CloseUnknown l e = ap (λ (m : Line). machine.done_after (counting unknown m) 0 by-doubt r) (sym e)
+  acted-same LastNak l e = ap (λ (m : Line). machine.done_after (counting unknown m) 1 by_doubt (set r 0 0x15)) (sym e)
+  acted-same CloseRefused l e = ap (λ (m : Line). machine.done_after (counting refused m) 0 by_refusal r) (sym e)
+  acted-same CloseUnknown l e = ap (λ (m : Line). machine.done_after (counting unknown m) 0 by_doubt r) (sym e)
 
   bad-same : (l : Line) → plain_step (bad_step l a r) ≡ machine.bad_step unit l q r
   unfolding bad_step machine.bad_step

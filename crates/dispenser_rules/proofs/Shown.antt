@@ -198,7 +198,7 @@ lawful =
       paid = λ q f x c h e. (books-good fresh_cassettes q h f x c e).paid;
       spoilt = λ q f x c h e. (books-good fresh_cassettes q h f x c e).spoilt;
       opens = opens_by;
-      closes-refused = refuses-by;
-      closes-unknown = loses-by;
+      closes_refused = refuses-by;
+      closes_unknown = loses-by;
       answers = λ a q f x c h e p. (books-good a q h f x c e).booked p;
     }

@@ -1,7 +1,7 @@
 -- The last error of each cassette (02, Q-5: "from paying and test answers, \"none\" before any. For a pay-both answer the same name stands on both"): after what each
 -- call answered, and told from a history.
 use Rattle.std.specs.Prelude.{ℕ, ◌≡◌, Bool, cond, ◌||◌, List, [], ◌∷◌, eqb}
-use Rattle.ledger.specs.Account.{Fate, waiting, answered-by, turned_down, in-doubt, Command, commands}
+use Rattle.ledger.specs.Account.{Fate, waiting, answered_by, turned_down, in_doubt, Command, commands}
 use Rattle.error_codes.specs.Errors.{error_class}
 use Rattle.error_codes.specs.declared.ErrorClass.{ErrorClass}
 use Rattle.dispenser_frame_rules.specs.Table.{pay_upper_code, pay_lower_code, pay_both_code, test_upper_code, test_lower_code}
@@ -69,9 +69,9 @@ tells code Lower = eqb code pay_lower_code || (eqb code pay_both_code || eqb cod
 -- a command answered by the bytes f tells the class of their error byte, by its place
 abbrev pub told_by : Fate → ℕ → Cassette → LastError → LastError
 told_by waiting code c older = older
-told_by (answered-by f) code c older = cond (tells code c) (Of (error_class (error_in f))) older
+told_by (answered_by f) code c older = cond (tells code c) (Of (error_class (error_in f))) older
 told_by turned_down code c older = older
-told_by in-doubt code c older = older
+told_by in_doubt code c older = older
 
 -- of commands, the newest first
 unfoldable pub last_error_in : List (Command Request) → Cassette → LastError

@@ -1,7 +1,7 @@
 -- The kept requests, told from a history (02, Q-6: "Show that each kept entry is what the history says, and that the sums still cover all requests, including those
 -- pushed out"). The second half is demand 3, whose sums go over all commands of the history.
 use Rattle.std.specs.Prelude.{ℕ, zero, suc, ◌≡◌, cond, List, [], ◌∷◌, reverse, take}
-use Rattle.ledger.specs.Account.{Fate, waiting, answered-by, turned_down, in-doubt, Command, commands}
+use Rattle.ledger.specs.Account.{Fate, waiting, answered_by, turned_down, in_doubt, Command, commands}
 use Rattle.ledger.specs.Calls.{run}
 use Rattle.exchange_rules.specs.Sums.{notes}
 use Rattle.dispenser_frame_rules.specs.declared.answer.Cassette.TheVariants.{Upper, Lower}
@@ -18,9 +18,9 @@ use Rattle.dispenser_rules.specs.declared.requests.KeptAt.TheVariants.{Nothing, 
 -- how a command of the history stands; what was paid by an answer is read off its bytes
 abbrev pub stands : Fate → ℕ → Standing
 stands waiting code = Open
-stands (answered-by f) code = Answered (notes (exit_of code f Upper)) (notes (exit_of code f Lower))
+stands (answered_by f) code = Answered (notes (exit_of code f Upper)) (notes (exit_of code f Lower))
 stands turned_down code = Refused
-stands in-doubt code = Unknown
+stands in_doubt code = Unknown
 
 -- "with code, counts asked, hand-overs and how each closed"
 abbrev pub entry_of : Command Request → KeptRequest

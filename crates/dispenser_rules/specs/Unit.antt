@@ -3,7 +3,7 @@ use Rattle.std.specs.Prelude.{ℕ, cond, List, [], eqb, take, drop}
 use Rattle.error_codes.specs.declared.ErrorClass.{ErrorClass}
 use Rattle.numbers.specs.Decimal.{number}
 use Rattle.ledger.specs.Account.{Dispenser}
-use Rattle.ledger.specs.Told.{Verdict, bad, good, Closing as PlainClosing, none, by_answer, by-refusal, by-doubt}
+use Rattle.ledger.specs.Told.{Verdict, bad, good, Closing as PlainClosing, none, by_answer, by_refusal, by_doubt}
 use Rattle.exchange_rules.specs.Machine.{Model, Box, Call as PlainCall, request as asks, byte as hears, tick as waits, clear as clears-line}
 use Rattle.exchange_rules.specs.declared.notes.Sums.{Sums}
 use Rattle.dispenser_frame_rules.specs.Table.{answer_length}
@@ -91,8 +91,8 @@ unit =
       pays = λ q. pays q.code;
       cassette = sums_of;
       opens = λ a q. account_opened a (asked_of q);
-      closes-refused = λ a q. account_refused a (asked_of q);
-      closes-unknown = λ a q. account_unknown a (asked_of q);
+      closes_refused = λ a q. account_refused a (asked_of q);
+      closes_unknown = λ a q. account_unknown a (asked_of q);
       answers = λ a q x. account_answered a (asked_of q) x.answer;
       bytes = model2000_t;
       longest = 21;
@@ -125,5 +125,5 @@ lent clear = []
 abbrev pub plain_closing : Closing → PlainClosing Good
 plain_closing Nothing = none
 plain_closing (Answered answer class) = by_answer (record { answer = answer; class = class })
-plain_closing Refused = by-refusal
-plain_closing Unknown = by-doubt
+plain_closing Refused = by_refusal
+plain_closing Unknown = by_doubt

@@ -8,7 +8,7 @@ use Rattle.exchange.proofs.line.closed.Kinds as closed
 use Rattle.exchange.proofs.line.closed.Reads as closed-reads
 use Rattle.exchange.proofs.line.doubted.Kinds as doubted
 use Rattle.exchange.proofs.line.doubted.Reads as doubted-reads
-use Rattle.exchange.proofs.line.in_doubt.Kinds as in-doubt
+use Rattle.exchange.proofs.line.in_doubt.Kinds as in_doubt
 use Rattle.exchange.proofs.line.in_doubt.Reads as in-doubt-reads
 use Rattle.exchange.proofs.line.settled.Kinds as settled
 use Rattle.exchange.proofs.line.settled.Reads as settled-reads
@@ -51,9 +51,9 @@ doubted-tied =
     tied doubted.ps doubted.r doubted-reads.Post (λ κs x e. x) _
     (λ κs a x e p. p)
 
-pub in-doubt-tied : Tied in-doubt.ps in-doubt.r in-doubt-reads.Post (λ κs x e. x)
+pub in-doubt-tied : Tied in_doubt.ps in_doubt.r in-doubt-reads.Post (λ κs x e. x)
 in-doubt-tied =
-    tied in-doubt.ps in-doubt.r in-doubt-reads.Post (λ κs x e. x) _
+    tied in_doubt.ps in_doubt.r in-doubt-reads.Post (λ κs x e. x) _
     (λ κs a x e p. p)
 
 pub settled-tied : Tied settled.ps settled.r settled-reads.Post (λ κs x e. x)

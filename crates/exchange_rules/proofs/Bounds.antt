@@ -18,14 +18,14 @@ one_more g n m h =
 pub bounded-wider : {g k n c : ℕ} {s : Sums} → Bounded g n c s → g ≤ k → Bounded k n c s
 bounded-wider b h =
     record {
-      asked-most = b.asked-most;
-      paid-most = b.paid-most;
-      short-most = b.short-most;
-      over-most = b.over-most;
-      refused-most = b.refused-most;
-      unknown-most = b.unknown-most;
-      pending-most = omega (arith, b.pending-most);
-      rejected-most = b.rejected-most;
+      asked_most = b.asked_most;
+      paid_most = b.paid_most;
+      short_most = b.short_most;
+      over_most = b.over_most;
+      refused_most = b.refused_most;
+      unknown_most = b.unknown_most;
+      pending_most = omega (arith, b.pending_most);
+      rejected_most = b.rejected_most;
     }
 
 module _ {g n c d : ℕ} {s : Sums} (b : Bounded g n c s) where
@@ -33,68 +33,68 @@ module _ {g n c d : ℕ} {s : Sums} (b : Bounded g n c s) where
   pub bounded-longer : {m : ℕ} → n ≤ m → c ≤ d → Bounded g m d s
   bounded-longer g h =
       record {
-        asked-most = omega arith;
-        paid-most = omega arith;
-        short-most = omega arith;
-        over-most = omega arith;
-        refused-most = omega arith;
-        unknown-most = omega arith;
-        pending-most = omega arith;
-        rejected-most = omega arith;
+        asked_most = omega arith;
+        paid_most = omega arith;
+        short_most = omega arith;
+        over_most = omega arith;
+        refused_most = omega arith;
+        unknown_most = omega arith;
+        pending_most = omega arith;
+        rejected_most = omega arith;
       }
 
   pub sums-opened : (q : ℕ) → q ≤ g → c ≤ d → Bounded g (n + g) d (sums_opened s q)
   unfolding sums_opened
   sums-opened q f h =
       record {
-        asked-most = omega (arith, plus-most s.asked q);
-        paid-most = omega arith;
-        short-most = omega arith;
-        over-most = omega arith;
-        refused-most = omega arith;
-        unknown-most = omega arith;
-        pending-most = omega arith;
-        rejected-most = omega arith;
+        asked_most = omega (arith, plus-most s.asked q);
+        paid_most = omega arith;
+        short_most = omega arith;
+        over_most = omega arith;
+        refused_most = omega arith;
+        unknown_most = omega arith;
+        pending_most = omega arith;
+        rejected_most = omega arith;
       }
 
   pub sums-answered : (q e r : ℕ) → q ≤ g → e ≤ g → r ≤ g → c + g ≤ d → Bounded g n d (sums_answered s q e r)
   unfolding sums_answered
   sums-answered q e r f g k h =
       record {
-        asked-most = omega arith;
-        paid-most = omega (arith, plus-most s.paid e);
-        short-most = omega (arith, plus-most s.short (q - e));
-        over-most = omega (arith, plus-most s.over (e - q));
-        refused-most = omega arith;
-        unknown-most = omega arith;
-        pending-most = omega arith;
-        rejected-most = omega (arith, plus-most s.rejected r);
+        asked_most = omega arith;
+        paid_most = omega (arith, plus-most s.paid e);
+        short_most = omega (arith, plus-most s.short (q - e));
+        over_most = omega (arith, plus-most s.over (e - q));
+        refused_most = omega arith;
+        unknown_most = omega arith;
+        pending_most = omega arith;
+        rejected_most = omega (arith, plus-most s.rejected r);
       }
 
   pub sums-refused : (q : ℕ) → q ≤ g → c + g ≤ d → Bounded g n d (sums_refused s q)
   unfolding sums_refused
   sums-refused q f h =
       record {
-        asked-most = omega arith;
-        paid-most = omega arith;
-        short-most = omega arith;
-        over-most = omega arith;
-        refused-most = omega (arith, plus-most s.refused q);
-        unknown-most = omega arith;
-        pending-most = omega arith;
-        rejected-most = omega arith;
+        asked_most = omega arith;
+        paid_most = omega arith;
+        short_most = omega arith;
+        over_most = omega arith;
+        refused_most = omega (arith, plus-most s.refused q);
+        unknown_most = omega arith;
+        pending_most = omega arith;
+        rejected_most = omega arith;
       }
 
   pub sums-unknown : (q : ℕ) → q ≤ g → c + g ≤ d → Bounded g n d (sums_unknown s q)
   unfolding sums_unknown
   sums-unknown q f h =
       record {
-        asked-most = omega arith;
-        paid-most = omega arith;
-        short-most = omega arith;
-        over-most = omega arith;
-        refused-most = omega arith;
-        unknown-most = omega (arith, plus-most s.unknown q);
-        pending-most = omega arith;
-        rejected-most = omega arith;
+        asked_most = omega arith;
+        paid_most = omega arith;
+        short_most = omega arith;
+        over_most = omega arith;
+        refused_most = omega arith;
+        unknown_most = omega (arith, plus-most s.unknown q);
+        pending_most = omega arith;
+        rejected_most = omega arith;
       }

@@ -41,14 +41,14 @@ use Rattle.exchange_rules.proofs.Tracks.{request-tracks, byte-tracks, tick-track
 pub fresh-sums : (g n c : ℕ) → Bounded g n c fresh_sums
 fresh-sums g n c =
     record {
-      asked-most = omega arith;
-      paid-most = omega arith;
-      short-most = omega arith;
-      over-most = omega arith;
-      refused-most = omega arith;
-      unknown-most = omega arith;
-      pending-most = omega arith;
-      rejected-most = omega arith;
+      asked_most = omega arith;
+      paid_most = omega arith;
+      short_most = omega arith;
+      over_most = omega arith;
+      refused_most = omega arith;
+      unknown_most = omega arith;
+      pending_most = omega arith;
+      rejected_most = omega arith;
     }
 
 module _ {R X A C : Type 0} (U : Model R X A C) where

@@ -13,7 +13,7 @@ use Rattle.refusals.proofs.Rules.{either_way, certain, by_cases, holds-true, fai
 use Rattle.refusals.proofs.Writing.{over_last}
 use Rattle.ledger.specs.Account.{waiting}
 use Rattle.ledger.specs.Calls.{After}
-use Rattle.ledger.specs.Told.{Verdict, bad, good, void, Closing, none, by-refusal, by-doubt, Due, due, nothing, due_nak, due_first, due_full, Answers}
+use Rattle.ledger.specs.Told.{Verdict, bad, good, void, Closing, none, by_refusal, by_doubt, Due, due, nothing, due_nak, due_first, due_full, Answers}
 use Rattle.exchange_rules.specs.Limits.{hand_overs, nak_limit}
 use Rattle.exchange_rules.specs.Exchange.{first_byte, bad_frame, start_byte, inside_byte, heard_in, expired_in, expired, passed}
 use Rattle.exchange_rules.specs.Machine.{Model, Box, Reply, StepAfter, discipline, acted, bad_step, judged_step, judge_step, byte_acted, request_refusals, left, called-request}
@@ -36,9 +36,9 @@ module _ {R X A C : Type 0} (U : Model R X A C) where
   spoken Nothing q = nothing
   spoken HandOver q = due (U.layout q) none
   spoken Nak q = due (0x15 ∷ []) none
-  spoken LastNak q = due (0x15 ∷ []) by-doubt
-  spoken CloseRefused q = due [] by-refusal
-  spoken CloseUnknown q = due [] by-doubt
+  spoken LastNak q = due (0x15 ∷ []) by_doubt
+  spoken CloseRefused q = due [] by_refusal
+  spoken CloseUnknown q = due [] by_doubt
 
   -- and what a byte is; f is the frame that it fills
   abbrev spoken_by : Heard → Line → R → List ℕ → Due X
@@ -85,10 +85,10 @@ module _ {R X A C : Type 0} (U : Model R X A C) where
           by_cases (under (l.gathered + 1) n) (λ g. rw (holds-true (under (l.gathered + 1) n) g)) (λ g. rw (fails-false (under (l.gathered + 1) n) g))
 
     -- a wait that has ended, and a tick
-    pub first-expires : spoken (expired_in First l).todo q ≡ due [] by-doubt
+    pub first-expires : spoken (expired_in First l).todo q ≡ due [] by_doubt
     first-expires = refl
 
-    pub start-expires : spoken (expired_in Start l).todo q ≡ due [] by-doubt
+    pub start-expires : spoken (expired_in Start l).todo q ≡ due [] by_doubt
     start-expires = refl
 
     pub inside-expires : spoken (expired_in Inside l).todo q ≡ due_nak U.bytes (discipline U) l.naks

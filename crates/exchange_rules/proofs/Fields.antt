@@ -10,7 +10,7 @@ use Rattle.refusals.proofs.Rules.{pick, either_way, certain}
 use Rattle.ledger.specs.Events.{hears, History, is_frame, bytes}
 use Rattle.ledger.specs.Account.{Ending, answered, last_of}
 use Rattle.ledger.specs.Calls.{After, gave, did, told}
-use Rattle.ledger.specs.Told.{Verdict, bad, good, void, none, by_answer, by-refusal, by-doubt, ending, AnsweredBy}
+use Rattle.ledger.specs.Told.{Verdict, bad, good, void, none, by_answer, by_refusal, by_doubt, ending, AnsweredBy}
 use Rattle.ledger.proofs.Laws.{commands-closed}
 use Rattle.ledger.proofs.Follows.{as-open}
 use Rattle.exchange_rules.specs.Exchange.{first_byte, bad_frame, start_byte, inside_byte, heard_in, heard, passed}
@@ -62,8 +62,8 @@ module _ {R X A C : Type 0} (U : Model R X A C) where
   carries (gave why) = false
   carries (did n none) = false
   carries (did n (by_answer x)) = true
-  carries (did n by-refusal) = false
-  carries (did n by-doubt) = false
+  carries (did n by_refusal) = false
+  carries (did n by_doubt) = false
 
   -- nothing that the exchange says is to be done carries one
   acted-none : (t : Todo) (l : Line) (q : R) (r : List ℕ) → carries (acted U t l q r).reply ≡ false

@@ -222,16 +222,16 @@ module _ {R X A C : Type 0} (U : Model R X A C) where
         }
 
     -- by what is to be done
-    refused-sound : (need doubts : ℕ) → Closes s.line m s.asks → Sound U (with (doubted (closed m need) doubts) (U.closes-refused s.account s.asks))
+    refused-sound : (need doubts : ℕ) → Closes s.line m s.asks → Sound U (with (doubted (closed m need) doubts) (U.closes_refused s.account s.asks))
     refused-sound need doubts t =
         closes-sound need doubts _ t (λ c.
-        subst (Within U.greatest s.line.accepted m.accepted) (sym (K.closes-refused s.account s.asks c))
+        subst (Within U.greatest s.line.accepted m.accepted) (sym (K.closes_refused s.account s.asks c))
         (sums-refused (k.books c) (U.bytes.wants s.asks c) (K.modest s.asks c t.sent) (one_more U.greatest _ _ t.count)))
 
-    unknown-sound : (need doubts : ℕ) → Closes s.line m s.asks → Sound U (with (doubted (closed m need) doubts) (U.closes-unknown s.account s.asks))
+    unknown-sound : (need doubts : ℕ) → Closes s.line m s.asks → Sound U (with (doubted (closed m need) doubts) (U.closes_unknown s.account s.asks))
     unknown-sound need doubts t =
         closes-sound need doubts _ t (λ c.
-        subst (Within U.greatest s.line.accepted m.accepted) (sym (K.closes-unknown s.account s.asks c))
+        subst (Within U.greatest s.line.accepted m.accepted) (sym (K.closes_unknown s.account s.asks c))
         (sums-unknown (k.books c) (U.bytes.wants s.asks c) (K.modest s.asks c t.sent) (one_more U.greatest _ _ t.count)))
 
     acted-sound : (t : Todo) (r : List ℕ) → Does t s.line m s.asks → Sound U (next U s (acted U t m s.asks r) store)

@@ -7,7 +7,7 @@ use native.Mathlib.Omega.{arith}
 use borrow.Author.Tests.{le-leb}
 use Rattle.refusals.specs.Rules.{at_most}
 use Rattle.refusals.proofs.Rules.{pick}
-use Rattle.ledger.specs.Account.{Dispenser, Totals, waiting, answered-by, turned_down, in-doubt, with-share}
+use Rattle.ledger.specs.Account.{Dispenser, Totals, waiting, answered_by, turned_down, in_doubt, with-share}
 use Rattle.exchange_rules.specs.Sums.{notes, plus, sums, sums_opened, sums_answered, sums_refused, sums_unknown, sums_rejected}
 use Rattle.exchange_rules.specs.Machine.{plain}
 use Rattle.exchange_rules.specs.Kept.{Bounded}
@@ -77,7 +77,7 @@ module _ {R C : Type 0} (D : Dispenser R C) (s : Sums) (t : Totals) (q : R) (c :
   unfolding sums_opened with-share
   shows-opened b z m =
       record {
-        asked = plus-plain s.asked _ (omega (arith, roomy.asked-most)) ∙ ap (λ (n : ℕ). n + D.wants q c) b.asked;
+        asked = plus-plain s.asked _ (omega (arith, roomy.asked_most)) ∙ ap (λ (n : ℕ). n + D.wants q c) b.asked;
         paid = b.paid;
         short = b.short;
         over = b.over;
@@ -96,13 +96,13 @@ module _ {R C : Type 0} (D : Dispenser R C) (s : Sums) (t : Totals) (q : R) (c :
           paid = b.paid;
           short = b.short;
           over = b.over;
-          refused = plus-plain s.refused _ (omega (arith, roomy.refused-most)) ∙ ap (λ (n : ℕ). n + D.wants q c) b.refused;
+          refused = plus-plain s.refused _ (omega (arith, roomy.refused_most)) ∙ ap (λ (n : ℕ). n + D.wants q c) b.refused;
           unknown = b.unknown;
           pending = sym z;
           rejected = b.rejected;
         }
 
-    pub shows-unknown : D.wants q c ≤ 255 → Shows (sums_unknown s (D.wants q c)) (with-share D t in-doubt q c)
+    pub shows-unknown : D.wants q c ≤ 255 → Shows (sums_unknown s (D.wants q c)) (with-share D t in_doubt q c)
     unfolding sums_unknown with-share
     shows-unknown m =
         record {
@@ -111,7 +111,7 @@ module _ {R C : Type 0} (D : Dispenser R C) (s : Sums) (t : Totals) (q : R) (c :
           short = b.short;
           over = b.over;
           refused = b.refused;
-          unknown = plus-plain s.unknown _ (omega (arith, roomy.unknown-most)) ∙ ap (λ (n : ℕ). n + D.wants q c) b.unknown;
+          unknown = plus-plain s.unknown _ (omega (arith, roomy.unknown_most)) ∙ ap (λ (n : ℕ). n + D.wants q c) b.unknown;
           pending = sym z;
           rejected = b.rejected;
         }
@@ -119,18 +119,18 @@ module _ {R C : Type 0} (D : Dispenser R C) (s : Sums) (t : Totals) (q : R) (c :
     -- an answer by the bytes f, which say e and r of this cassette
     module _ (f : List ℕ) where
       pub shows-answered : (e r : ℕ) → e ≡ D.exit q f c → r ≡ D.rejects q f c → D.wants q c ≤ 255 → e ≤ 255 → r ≤ 255
-          → Shows (sums_answered s (D.wants q c) e r) (with-share D t (answered-by f) q c)
+          → Shows (sums_answered s (D.wants q c) e r) (with-share D t (answered_by f) q c)
       unfolding sums_answered with-share
       shows-answered e r x y m g k =
           record {
             asked = b.asked;
-            paid = plus-plain s.paid e (omega (arith, roomy.paid-most)) ∙ rw (b.paid, x);
-            short = plus-plain s.short (D.wants q c - e) (omega (arith, roomy.short-most)) ∙ rw (b.short, x);
-            over = plus-plain s.over (e - D.wants q c) (omega (arith, roomy.over-most)) ∙ rw (b.over, x);
+            paid = plus-plain s.paid e (omega (arith, roomy.paid_most)) ∙ rw (b.paid, x);
+            short = plus-plain s.short (D.wants q c - e) (omega (arith, roomy.short_most)) ∙ rw (b.short, x);
+            over = plus-plain s.over (e - D.wants q c) (omega (arith, roomy.over_most)) ∙ rw (b.over, x);
             refused = b.refused;
             unknown = b.unknown;
             pending = sym z;
-            rejected = plus-plain s.rejected r (omega (arith, roomy.rejected-most)) ∙ rw (b.rejected, y);
+            rejected = plus-plain s.rejected r (omega (arith, roomy.rejected_most)) ∙ rw (b.rejected, y);
           }
 
 -- ---- a cassette of which nothing was asked

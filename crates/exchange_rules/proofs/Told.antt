@@ -14,7 +14,7 @@ use Rattle.ledger.specs.Events.{hears, waits as passes, goes_on, done, History, 
 use Rattle.ledger.specs.Account.{Ending}
 use Rattle.ledger.specs.Calls.{After}
 use Rattle.ledger.specs.Waiting.{some, waited}
-use Rattle.ledger.specs.Told.{Closing, by-doubt, Due, due, nothing, naks, begun, turns, due_nak, due_full, due_later, due_byte, wait, due_tick, due_by, Answers}
+use Rattle.ledger.specs.Told.{Closing, by_doubt, Due, due, nothing, naks, begun, turns, due_nak, due_full, due_later, due_byte, wait, due_tick, due_by, Answers}
 use Rattle.ledger.proofs.Waiting.{begun-with, begun-next, unbegun-first, begun-came}
 use Rattle.ledger.proofs.Follows.{as-open, OpenIn, while-open, while-shut}
 use Rattle.exchange_rules.specs.Limits.{first_wait, frame_wait}
@@ -106,7 +106,7 @@ module _ {R X A C O : Type 0} (U : Model R X A C) (K : Lawful U) (s : Box R A) (
   module _ (ms : ℕ) where
     -- what is due of the open command, by the wait that goes on
     open-due : (w : ℕ) → wait U.bytes (discipline U) h ≡ w → s.line.left ≡ w - waited turns h
-        → cond (some (begun h)) (due_nak U.bytes (discipline U) (naks h)) (due [] by-doubt) ≡ spoken U (expired s.line).todo s.asks
+        → cond (some (begun h)) (due_nak U.bytes (discipline U) (naks h)) (due [] by_doubt) ≡ spoken U (expired s.line).todo s.asks
         → due_tick U.bytes (discipline U) h ms ≡ spoken U (passed s.line ms).todo s.asks
     unfolding due_tick
     open-due w e l z =

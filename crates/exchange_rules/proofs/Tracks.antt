@@ -17,8 +17,8 @@ use Rattle.refusals.proofs.Rules.{pick, either_way, certain, holds-true, fails-f
 use Rattle.refusals.proofs.Writing.{take-over}
 use Rattle.ledger.specs.Events.{Deed, asks, hears, waits as passes, own, goes_on, closes, done, History, is_frame, taken, bytes, since}
 use Rattle.ledger.specs.Line.{quiet_time, accepted}
-use Rattle.ledger.specs.Account.{Ending, answered, refused, unknown, Totals, waiting, answered-by, turned_down, in-doubt, last_of, commands, with-share, totals, sums}
-use Rattle.ledger.specs.Told.{Verdict, bad, good, void, none, by_answer, by-refusal, by-doubt, ending, begun, turns}
+use Rattle.ledger.specs.Account.{Ending, answered, refused, unknown, Totals, waiting, answered_by, turned_down, in_doubt, last_of, commands, with-share, totals, sums}
+use Rattle.ledger.specs.Told.{Verdict, bad, good, void, none, by_answer, by_refusal, by_doubt, ending, begun, turns}
 use Rattle.ledger.specs.Calls.{After, told}
 use Rattle.ledger.specs.Sent.{Sends}
 use Rattle.ledger.specs.Waiting.{some, waited}
@@ -103,18 +103,18 @@ module _ {R X A C O : Type 0} (U : Model R X A C) where
           wanted : (c : C) → U.bytes.wants s.asks c ≤ 255
           wanted c = le_trans (K.modest s.asks c op.sent) K.small
 
-          refused-kept : (c : C) → plain (U.cassette (U.closes-refused s.account s.asks) c) ≡ with-share U.bytes (older c) turned_down s.asks c
+          refused-kept : (c : C) → plain (U.cassette (U.closes_refused s.account s.asks) c) ≡ with-share U.bytes (older c) turned_down s.asks c
           refused-kept c =
-              ap plain (K.closes-refused s.account s.asks c)
+              ap plain (K.closes_refused s.account s.asks c)
               ∙ together (shows-refused U.bytes (U.cassette s.account c) (older c) s.asks c (roomy U K s k c) (apart (held c)) (x.over c) (wanted c))
 
-          unknown-kept : (c : C) → plain (U.cassette (U.closes-unknown s.account s.asks) c) ≡ with-share U.bytes (older c) in-doubt s.asks c
+          unknown-kept : (c : C) → plain (U.cassette (U.closes_unknown s.account s.asks) c) ≡ with-share U.bytes (older c) in_doubt s.asks c
           unknown-kept c =
-              ap plain (K.closes-unknown s.account s.asks c)
+              ap plain (K.closes_unknown s.account s.asks c)
               ∙ together (shows-unknown U.bytes (U.cassette s.account c) (older c) s.asks c (roomy U K s k c) (apart (held c)) (x.over c) (wanted c))
 
           answered-kept : (f : List ℕ) (v : X) → U.judges s.asks f ≡ good v
-              → (c : C) → plain (U.cassette (U.answers s.account s.asks v) c) ≡ with-share U.bytes (older c) (answered-by f) s.asks c
+              → (c : C) → plain (U.cassette (U.answers s.account s.asks v) c) ≡ with-share U.bytes (older c) (answered_by f) s.asks c
           answered-kept f v e c =
               ap plain (K.answers s.account s.asks f v c op.sent e (pending c))
               ∙ together (shows-answered U.bytes (U.cassette s.account c) (older c) s.asks c (roomy U K s k c) (apart (held c)) (x.over c)
@@ -130,21 +130,21 @@ module _ {R X A C O : Type 0} (U : Model R X A C) where
               (counted_same (U.pays s.asks) end s.line.doubts) kept
 
           module _ (r store : List ℕ) where
-            refuse-good : Good s h d (done_after (shut U s.asks refused s.line) 0 by-refusal r) store
+            refuse-good : Good s h d (done_after (shut U s.asks refused s.line) 0 by_refusal r) store
             refuse-good = closes-good [] none-frame (nothing-sent h d o) refused _ store refused-kept
 
             lost-good : (put : List ℕ) → is_frame put ≡ false → Sends U.bytes U.layout h d put
-                → Tracks U (next U s (done_after (shut U s.asks unknown s.line) 0 by-doubt r) store) (done d put (closes unknown) ∷ h)
+                → Tracks U (next U s (done_after (shut U s.asks unknown s.line) 0 by_doubt r) store) (done d put (closes unknown) ∷ h)
             lost-good put e w = closes-good put e w unknown _ store unknown-kept
 
-            lose-good : Good s h d (done_after (shut U s.asks unknown s.line) 0 by-doubt r) store
+            lose-good : Good s h d (done_after (shut U s.asks unknown s.line) 0 by_doubt r) store
             lose-good = lost-good [] none-frame (nothing-sent h d o)
 
             -- where 15h may be sent
             module _ (long : 0 < length r) (may : Sends U.bytes U.layout h d (0x15 ∷ [])) where
-              nak-lose-good : Good s h d (done_after (shut U s.asks unknown s.line) 1 by-doubt (set r 0 0x15)) store
+              nak-lose-good : Good s h d (done_after (shut U s.asks unknown s.line) 1 by_doubt (set r 0 0x15)) store
               nak-lose-good =
-                  subst (λ (put : List ℕ). Tracks U (next U s (done_after (shut U s.asks unknown s.line) 1 by-doubt (set r 0 0x15)) store) (done d put (closes unknown) ∷ h))
+                  subst (λ (put : List ℕ). Tracks U (next U s (done_after (shut U s.asks unknown s.line) 1 by_doubt (set r 0 0x15)) store) (done d put (closes unknown) ∷ h))
                   (sym (one-put r 0x15 long)) (lost-good (0x15 ∷ []) (one-frame 0x15) may)
 
               nak-good : some (since h) ≡ true → (n : ℕ) → n ≡ s.line.naks + 1 → Good s h d (done_after (starting s.line nak_wait n) 1 none (set r 0 0x15)) store
@@ -284,12 +284,12 @@ module _ {R X A C O : Type 0} (U : Model R X A C) where
             (closes-good s h k t (hears b) tt x op (0x06 ∷ []) (one-frame 0x06) (inr (inl refl)) answered _ store
             (λ c.
             answered-kept s h k t (hears b) tt x op f v e c
-            ∙ ap (λ (w : List ℕ). with-share U.bytes (totals U.bytes x.older c) (answered-by w) s.asks c) (sym last)))
+            ∙ ap (λ (w : List ℕ). with-share U.bytes (totals U.bytes x.older c) (answered_by w) s.asks c) (sym last)))
 
         -- an answer which says that nothing was done
-        void-good : (left : ℕ) → Good s h (hears b) (done_after (shut U s.asks refused (waits s.line left)) 1 by-refusal (set r 0 0x06)) store
+        void-good : (left : ℕ) → Good s h (hears b) (done_after (shut U s.asks refused (waits s.line left)) 1 by_refusal (set r 0 0x06)) store
         void-good left =
-            subst (λ (put : List ℕ). Tracks U (next U s (done_after (shut U s.asks refused s.line) 1 by-refusal (set r 0 0x06)) store) (done (hears b) put (closes refused) ∷ h))
+            subst (λ (put : List ℕ). Tracks U (next U s (done_after (shut U s.asks refused s.line) 1 by_refusal (set r 0 0x06)) store) (done (hears b) put (closes refused) ∷ h))
             (sym (one-put r 0x06 (omega arith)))
             (closes-good s h k t (hears b) tt x op (0x06 ∷ []) (one-frame 0x06) (inr (inl refl)) refused _ store (refused-kept s h k t (hears b) tt x op))
 

@@ -31,14 +31,14 @@ settled Inside accepted = accepted - 1
 
 -- of notes asked there are no more than `asked`, of all others no more than `closed`, and no more open than the greatest count
 pub record Bounded (greatest asked closed : ℕ) (s : Sums) : Type 0 where
-  pub asked-most : s.asked.0 ≤ asked
-  pub paid-most : s.paid.0 ≤ closed
-  pub short-most : s.short.0 ≤ closed
-  pub over-most : s.over.0 ≤ closed
-  pub refused-most : s.refused.0 ≤ closed
-  pub unknown-most : s.unknown.0 ≤ closed
-  pub pending-most : s.pending.0 ≤ greatest
-  pub rejected-most : s.rejected.0 ≤ closed
+  pub asked_most : s.asked.0 ≤ asked
+  pub paid_most : s.paid.0 ≤ closed
+  pub short_most : s.short.0 ≤ closed
+  pub over_most : s.over.0 ≤ closed
+  pub refused_most : s.refused.0 ≤ closed
+  pub unknown_most : s.unknown.0 ≤ closed
+  pub pending_most : s.pending.0 ≤ greatest
+  pub rejected_most : s.rejected.0 ≤ closed
 
 -- no sum of a cassette is more than the greatest count for each command: those accepted, and those closed
 abbrev pub Within : ℕ → ℕ → ℕ → Sums → Type 0

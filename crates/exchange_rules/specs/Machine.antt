@@ -7,7 +7,7 @@ use Rattle.ledger.specs.Line.{is_open as is_open_in, quiet_time, quiet_needed, a
 use Rattle.ledger.specs.Account.{Ending, answered, refused, unknown, Dispenser, Totals}
 use Rattle.ledger.specs.Stopped.{succession}
 use Rattle.ledger.specs.Calls.{After, Returned, gave, did, Host}
-use Rattle.ledger.specs.Told.{Verdict, bad, good, void, Closing, none, by_answer, by-refusal, by-doubt, ending, Discipline}
+use Rattle.ledger.specs.Told.{Verdict, bad, good, void, Closing, none, by_answer, by_refusal, by_doubt, ending, Discipline}
 use Rattle.refusals.specs.declared.Declined.{Declined}
 use Rattle.refusals.specs.declared.Declined.TheVariants.{Room, Range, Open, Unquiet, Spent, Tick, Stopped}
 use Rattle.exchange_rules.specs.Limits.{quiet, long_quiet, first_wait, answer_wait, nak_wait, frame_wait, hand_overs, nak_limit, doubt_limit, least_room, command_limit, longest_tick}
@@ -35,8 +35,8 @@ pub record Model (R X A C : Type 0) : Type 1 where
   pub pays : R → Bool
   pub cassette : A → C → Sums
   pub opens : A → R → A
-  pub closes-refused : A → R → A
-  pub closes-unknown : A → R → A
+  pub closes_refused : A → R → A
+  pub closes_unknown : A → R → A
   pub answers : A → R → X → A
   pub bytes : Dispenser R C
   pub longest : ℕ
@@ -83,7 +83,7 @@ module _ {R X A C : Type 0} (U : Model R X A C) where
         naks = nak_limit;
         first = first_wait;
         answer = answer_wait;
-        after-nak = nak_wait;
+        after_nak = nak_wait;
         frame = frame_wait;
       }
 
@@ -100,9 +100,9 @@ module _ {R X A C : Type 0} (U : Model R X A C) where
   acted Nothing l q r = done_after l 0 none r
   acted HandOver l q r = done_after l (U.hands q r).put none (U.hands q r).room
   acted Nak l q r = done_after l 1 none (set r 0 0x15)
-  acted LastNak l q r = done_after (shut q unknown l) 1 by-doubt (set r 0 0x15)
-  acted CloseRefused l q r = done_after (shut q refused l) 0 by-refusal r
-  acted CloseUnknown l q r = done_after (shut q unknown l) 0 by-doubt r
+  acted LastNak l q r = done_after (shut q unknown l) 1 by_doubt (set r 0 0x15)
+  acted CloseRefused l q r = done_after (shut q refused l) 0 by_refusal r
+  acted CloseUnknown l q r = done_after (shut q unknown l) 0 by_doubt r
 
   -- "Any other full frame (bad), or lateness inside one"
   unfoldable pub bad_step : Line → R → List ℕ → StepAfter X
@@ -112,7 +112,7 @@ module _ {R X A C : Type 0} (U : Model R X A C) where
   abbrev pub judged_step : Verdict X → Line → R → List ℕ → StepAfter X
   judged_step bad l q r = bad_step l q r
   judged_step (good x) l q r = done_after (shut q answered l) 1 (by_answer x) (set r 0 0x06)
-  judged_step void l q r = done_after (shut q refused l) 1 by-refusal (set r 0 0x06)
+  judged_step void l q r = done_after (shut q refused l) 1 by_refusal (set r 0 0x06)
 
   unfoldable pub judge_step : Line → R → List ℕ → List ℕ → StepAfter X
   judge_step l q store r = judged_step (U.judges q (take (U.bytes.span q) store)) l q r
@@ -148,8 +148,8 @@ module _ {R X A C : Type 0} (U : Model R X A C) where
   abbrev pub closed_by : A → R → Closing X → A
   closed_by a q none = a
   closed_by a q (by_answer x) = U.answers a q x
-  closed_by a q by-refusal = U.closes-refused a q
-  closed_by a q by-doubt = U.closes-unknown a q
+  closed_by a q by_refusal = U.closes_refused a q
+  closed_by a q by_doubt = U.closes_unknown a q
 
   abbrev pub booked_by : A → R → Reply X → A
   booked_by a q (gave why) = a

@@ -23,8 +23,8 @@ module _ {R X A C : Type 0} (U : Model R X A C) where
     pub spoilt : (q : R) (f : List ℕ) (x : X) (c : C) → (U.sendable q).holds → U.judges q f ≡ good x → U.bytes.rejects q f c ≤ U.greatest
     -- the account is booked cassette by cassette, by what the bytes say
     pub opens : (a : A) (q : R) (c : C) → U.cassette (U.opens a q) c ≡ sums_opened (U.cassette a c) (U.bytes.wants q c)
-    pub closes-refused : (a : A) (q : R) (c : C) → U.cassette (U.closes-refused a q) c ≡ sums_refused (U.cassette a c) (U.bytes.wants q c)
-    pub closes-unknown : (a : A) (q : R) (c : C) → U.cassette (U.closes-unknown a q) c ≡ sums_unknown (U.cassette a c) (U.bytes.wants q c)
+    pub closes_refused : (a : A) (q : R) (c : C) → U.cassette (U.closes_refused a q) c ≡ sums_refused (U.cassette a c) (U.bytes.wants q c)
+    pub closes_unknown : (a : A) (q : R) (c : C) → U.cassette (U.closes_unknown a q) c ≡ sums_unknown (U.cassette a c) (U.bytes.wants q c)
     pub answers : (a : A) (q : R) (f : List ℕ) (x : X) (c : C) → (U.sendable q).holds → U.judges q f ≡ good x
         → (U.cassette a c).pending.0 ≡ U.bytes.wants q c
         → U.cassette (U.answers a q x) c ≡ sums_answered (U.cassette a c) (U.bytes.wants q c) (U.bytes.exit q f c) (U.bytes.rejects q f c)

@@ -70,12 +70,12 @@ module _ (piece : List ℕ) (fed i : ℕ) (cut : Bool) (begun : Reader) (h : i <
   inside : fed + i + length (drop i piece) ≤ most_bytes
   inside = simp length-drop (omega (arith, h, l))
 
-  taken-up : (d : Desk) (x : Record) (n : ℕ) → f ≡ Whole x n → Given d (cond cut begun fresh_reader) (fed + i) (drop i piece) x n
-  taken-up d x n q = whole-given d (cond cut begun.start (fed + i)) (cond cut begun fresh_reader) (fed + i) (drop i piece) inside x n came q
+  taken_up : (d : Desk) (x : Record) (n : ℕ) → f ≡ Whole x n → Given d (cond cut begun fresh_reader) (fed + i) (drop i piece) x n
+  taken_up d x n q = whole-given d (cond cut begun.start (fed + i)) (cond cut begun fresh_reader) (fed + i) (drop i piece) inside x n came q
 
   -- the next record is due further on, and no further than the end
   pub further : (d : Desk) (x : Record) (n : ℕ) → f ≡ Whole x n → (i < i + n) × (i + n ≤ length piece)
-  further d x n q = let g = taken-up d x n q in (omega (arith, g.some), omega (arith, simp length-drop at g.fits, h))
+  further d x n q = let g = taken_up d x n q in (omega (arith, g.some), omega (arith, simp length-drop at g.fits, h))
 
   pub gives : (d d' : Desk) (x : Record) (n : ℕ) {o : Replaying} → f ≡ Whole x n → d' ≡ given d x
       → fed_piece (replay_on d (cond cut begun fresh_reader) (fed + i)) (drop i piece) ≡ o
@@ -84,7 +84,7 @@ module _ (piece : List ℕ) (fed i : ℕ) (cut : Bool) (begun : Reader) (h : i <
       let m : fed + (i + n) ≡ fed + i + n = omega arith in
       ap (λ (y : Desk). fed_piece (replay_on y fresh_reader (fed + (i + n))) (drop (i + n) piece)) g
       ∙ ap₂ (λ (k : ℕ) (s : List ℕ). fed_piece (replay_on (given d x) fresh_reader k) s) m (sym (drop-drop n i piece))
-      ∙ sym (taken-up d x n q).leaves
+      ∙ sym (taken_up d x n q).leaves
       ∙ p
 
   pub breaks : (d : Desk) {o : Replaying} {why : Fault} → (why ≡ Cut → ⊥) → f ≡ Bad why

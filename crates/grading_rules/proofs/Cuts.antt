@@ -195,7 +195,7 @@ after-fault =
       shows = λ ps why at h e. fed-pieces ps fresh_replay ∙ shows-fault (flatten ps) why at h e;
       stays = λ why at s. broken-stays s why at;
       end = broken-end;
-      never-cut = λ ps at e.
+      never_cut = λ ps at e.
           stands-uncut at (stands-fed (flatten ps) stands-first)
           (ap (λ (w : Replaying). w.reader.place) (sym (fed-pieces ps fresh_replay) ∙ e) ∙ place-broken Cut at);
     }
@@ -217,26 +217,26 @@ given-counts d Clear = (refl, once (payer_declines (session_clear d.dispenser).r
 
 counted-broken : (why : Fault) (at : ℕ) → at ≤ most_bytes → Counted (broken_at why at)
 unfolding broken_at fresh_desk
-counted-broken why at h = record { start-most = h; declined-most = omega arith; records-most = omega arith; fed-most = omega arith }
+counted-broken why at h = record { start_most = h; declined_most = omega arith; records_most = omega arith; fed_most = omega arith }
 
 counted-after : (o : Outcome) (q : Reader) (w : Replaying) → w.fed < most_bytes → q.start ≤ most_bytes → ((why : Fault) (at : ℕ) → o ≡ Bad why at → at ≤ most_bytes) → Counted w
     → Counted (after_byte o q w)
 counted-after More q w h l f c =
-    record { start-most = l; declined-most = c.declined-most; records-most = omega (arith, c.records-most); fed-most = omega (arith, h) }
+    record { start_most = l; declined_most = c.declined_most; records_most = omega (arith, c.records_most); fed_most = omega (arith, h) }
 counted-after (Whole x) q w h l f c =
     let n = given-counts w.desk x in
     record {
-      start-most = l;
-      declined-most = omega (arith, n.0, n.1, c.declined-most);
-      records-most = omega (arith, n.0, c.records-most);
-      fed-most = omega (arith, h);
+      start_most = l;
+      declined_most = omega (arith, n.0, n.1, c.declined_most);
+      records_most = omega (arith, n.0, c.records_most);
+      fed_most = omega (arith, h);
     }
 counted-after (Bad why at) q w h l f c = counted-broken why at (f why at refl)
 
 counted-byte : (w : Replaying) (b : ℕ) → Counted w → Counted (fed_byte w b)
 unfolding fed_byte
 counted-byte w b c =
-    let y = taken-low w.reader w.fed b c.start-most c.fed-most in
+    let y = taken-low w.reader w.fed b c.start_most c.fed_most in
     by_cases (at_most most_bytes w.fed)
     (λ l.
     let x = past-faulty w.reader w.fed b l in
@@ -250,4 +250,4 @@ counted-fed (b ∷ s) w c = subst Counted (sym (fed-cons w b s)) (counted-fed s 
 
 pub stays-counted : StaysCounted
 unfolding fresh_replay fresh_desk
-stays-counted = record { at_first = record { start-most = omega arith; declined-most = omega arith; records-most = omega arith; fed-most = omega arith }; after = λ w s c. counted-fed s w c }
+stays-counted = record { at_first = record { start_most = omega arith; declined_most = omega arith; records_most = omega arith; fed_most = omega arith }; after = λ w s c. counted-fed s w c }

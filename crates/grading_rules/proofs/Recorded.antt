@@ -127,8 +127,8 @@ fresh-counts = (refl, refl)
 pub session-ran : (xs : List Record) → (run fresh_desk xs).dispenser ≡ ran host fresh_session (calls xs)
 session-ran xs = dispenser-ran fresh_desk xs ∙ ap (λ (s : Session). ran host s (calls xs)) fresh-parts.0
 
-errors-told : (xs : List Record) → (run fresh_desk xs).errors ≡ errors_from fresh_session no_errors (calls xs)
-errors-told xs = errors-ran fresh_desk xs ∙ ap₂ (λ (s : Session) (e : LastErrors). errors_from s e (calls xs)) fresh-parts.0 fresh-errors
+errors_told : (xs : List Record) → (run fresh_desk xs).errors ≡ errors_from fresh_session no_errors (calls xs)
+errors_told xs = errors-ran fresh_desk xs ∙ ap₂ (λ (s : Session) (e : LastErrors). errors_from s e (calls xs)) fresh-parts.0 fresh-errors
 
 pub taker-ran : (xs : List Record) (i : AllInRange xs) → (run fresh_desk xs).validator ≡ ran taker_host fresh_taker (taker_calls xs i)
 taker-ran xs i = validator-ran fresh_desk xs i ∙ ap (λ (s : Taker). ran taker_host s (taker_calls xs i)) fresh-parts.1
@@ -149,10 +149,10 @@ as-recorded-whole s xs h e =
             ap (λ (f : Findings). oldest_first f.account.requests) g
             ∙ ap (λ (w : Session). oldest_first w.account.requests) (session-ran xs)
             ∙ requests-by-history.kept (calls xs);
-        errors-told = λ c.
-            ap (λ (f : Findings). last_of f.errors c) g ∙ ap (λ (e : LastErrors). last_of e c) (errors-told xs) ∙ errors-by-history (calls xs) c;
-        bills-told = λ y l. rw (g, taker-ran xs i) (kept-by-history.bills (taker_calls xs i) y l);
-        table-told = rw (g, taker-ran xs i) (kept-by-history.table (taker_calls xs i));
+        errors_told = λ c.
+            ap (λ (f : Findings). last_of f.errors c) g ∙ ap (λ (e : LastErrors). last_of e c) (errors_told xs) ∙ errors-by-history (calls xs) c;
+        bills_told = λ y l. rw (g, taker-ran xs i) (kept-by-history.bills (taker_calls xs i) y l);
+        table_told = rw (g, taker-ran xs i) (kept-by-history.table (taker_calls xs i));
         declined = ap (λ (f : Findings). f.declined) g ∙ declined-ran fresh_desk xs ∙ omega (arith, fresh-counts.0);
         all = ap (λ (f : Findings). f.records) g ∙ records-ran fresh_desk xs ∙ omega (arith, fresh-counts.1);
       },

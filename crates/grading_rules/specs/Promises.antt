@@ -85,11 +85,11 @@ pub record Recorded (f : Findings) (xs : List Record) (i : AllInRange xs) : Type
   -- the kept requests are the last 32 paying ones of that history, oldest first
   pub kept : oldest_first f.account.requests ≡ last_paying (calls xs)
   -- the last error of each cassette is the class of the error byte of its last good paying or test answer, by the bytes of the history
-  pub errors-told : (c : Cassette) → last_of f.errors c ≡ last_error_in (commands model2000_t (history (calls xs))) c
+  pub errors_told : (c : Cassette) → last_of f.errors c ≡ last_error_in (commands model2000_t (history (calls xs))) c
   -- the bills are those of the validator's history
-  pub bills-told : (y : ℕ) → y < types → (get_or f.bills y (bills 0)).0 ≡ counted y (taker_history (taker_calls xs i))
+  pub bills_told : (y : ℕ) → y < types → (get_or f.bills y (bills 0)).0 ≡ counted y (taker_history (taker_calls xs i))
   -- the bill table is the one that the same history gives (02, Q-1)
-  pub table-told : f.table ≡ table_by (taker_history (taker_calls xs i))
+  pub table_told : f.table ≡ table_by (taker_history (taker_calls xs i))
   -- declined is the number of records that a session refused, and records counts them all
   pub declined : f.declined ≡ refusals fresh_desk xs
   pub all : f.records ≡ length xs
@@ -114,15 +114,15 @@ pub record AfterFault : Type 0 where
       → fed_pieces fresh_replay ps ≡ broken_at why at
   pub stays : (why : Fault) (at : ℕ) (s : List ℕ) → fed_piece (broken_at why at) s ≡ broken_at why at
   pub end : (why : Fault) (at : ℕ) → ended_replay (broken_at why at) ≡ bad_findings why at
-  pub never-cut : (ps : List (List ℕ)) (at : ℕ) → fed_pieces fresh_replay ps ≡ broken_at Cut at → ⊥
+  pub never_cut : (ps : List (List ℕ)) (at : ℕ) → fed_pieces fresh_replay ps ≡ broken_at Cut at → ⊥
 
 -- no count wraps, and no offset: there are no more records declined than records, no more records than bytes fed, since a record has at least one, and of those no more than a
 -- recording may have, 4,294,967,295; nor is the record begun, or a fault, further on. So each fits 32 bits
 pub record Counted (w : Replaying) : Type 0 where
-  pub start-most : w.reader.start ≤ most_bytes
-  pub declined-most : w.desk.declined ≤ w.desk.records
-  pub records-most : w.desk.records ≤ w.fed
-  pub fed-most : w.fed ≤ most_bytes
+  pub start_most : w.reader.start ≤ most_bytes
+  pub declined_most : w.desk.declined ≤ w.desk.records
+  pub records_most : w.desk.records ≤ w.fed
+  pub fed_most : w.fed ≤ most_bytes
 
 -- a replay that is fresh is counted, and stays so whatever is fed
 pub record StaysCounted : Type 0 where

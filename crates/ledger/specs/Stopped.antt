@@ -2,7 +2,7 @@
 -- the operator's clear.
 use Rattle.std.specs.Prelude.{ℕ, ◌+◌, Bool, cond, List, [], ◌∷◌, take}
 use Rattle.ledger.specs.Events.{asks, hears, waits, own, declined, done, History}
-use Rattle.ledger.specs.Account.{Ending, Dispenser, Fate, waiting, answered-by, turned_down, in-doubt, Command, commands}
+use Rattle.ledger.specs.Account.{Ending, Dispenser, Fate, waiting, answered_by, turned_down, in_doubt, Command, commands}
 
 -- how many commands were accepted since the last clear
 unfoldable pub since_clear : {R O K : Type 0} → History R O K → ℕ
@@ -16,9 +16,9 @@ since_clear (done (own o) put left ∷ h) = 0
 -- n paying commands in succession closed unknown before this paying one: "an answered or refused payout" breaks the succession. One that is open has not closed
 abbrev pub onward : Fate → ℕ → ℕ
 onward waiting n = n
-onward (answered-by f) n = 0
+onward (answered_by f) n = 0
 onward turned_down n = 0
-onward in-doubt n = n + 1
+onward in_doubt n = n + 1
 
 -- how many paying commands in succession closed unknown, of commands with the newest first: "Status, purge and test .. do not break the succession"
 unfoldable pub unknowns : {R : Type 0} → (R → Bool) → List (Command R) → ℕ

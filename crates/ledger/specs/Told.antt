@@ -4,7 +4,7 @@ use Rattle.std.specs.Prelude.{ℕ, ◌+◌, ◌≡◌, Bool, false, cond, not, �
 use Rattle.refusals.specs.Put.{over}
 use Rattle.ledger.specs.Events.{Deed, asks, hears, waits, own, Left, goes_on, closes, declined, done, History, since}
 use Rattle.ledger.specs.Line.{is_open}
-use Rattle.ledger.specs.Account.{Ending, answered, refused, unknown, Dispenser, answered-by, Command, commands}
+use Rattle.ledger.specs.Account.{Ending, answered, refused, unknown, Dispenser, answered_by, Command, commands}
 use Rattle.ledger.specs.Calls.{Returned, gave, did, Host, seen, run, history_from}
 use Rattle.ledger.specs.Waiting.{some, from, heard, waited}
 
@@ -19,15 +19,15 @@ pub data Verdict (X : Type 0) : Type 0 where
 pub data Closing (X : Type 0) : Type 0 where
   none : Closing X
   by_answer : X → Closing X
-  by-refusal : Closing X
-  by-doubt : Closing X
+  by_refusal : Closing X
+  by_doubt : Closing X
 
 -- of an answer the history has no more than that it came
 abbrev pub ending : {X : Type 0} → Closing X → Left Ending
 ending none = goes_on
 ending (by_answer x) = closes answered
-ending by-refusal = closes refused
-ending by-doubt = closes unknown
+ending by_refusal = closes refused
+ending by_doubt = closes unknown
 
 -- what differs from unit to unit: in which bytes a command is handed over, and what a full frame is to it; how often it may be handed over, and how many
 -- 15h of ours close it; and the waits: for the first byte, for an answer to start after 06h and after a 15h of ours, and from 01h to the check
@@ -38,7 +38,7 @@ pub record Discipline (R X : Type 0) : Type 0 where
   pub naks : ℕ
   pub first : ℕ
   pub answer : ℕ
-  pub after-nak : ℕ
+  pub after_nak : ℕ
   pub frame : ℕ
 
 -- what is due: the bytes to put, and the closing to return
@@ -91,20 +91,20 @@ of_first f (k ∷ ks) = f k
 module _ {R X C : Type 0} (D : Dispenser R C) (G : Discipline R X) where
   -- "send 15h; the third 15h of a command is sent and closes it as unknown"; n were sent before
   unfoldable pub due_nak : ℕ → Due X
-  due_nak n = due (0x15 ∷ []) (cond (ltb (n + 1) G.naks) none by-doubt)
+  due_nak n = due (0x15 ∷ []) (cond (ltb (n + 1) G.naks) none by_doubt)
 
   -- "First byte since a hand-over: 06h, wait for the answer; 15h, hand over the same frame again at once, or after the [fourth] hand-over
   -- close as refused; any other byte, close as unknown at once." (as 02, Q-2, amends it)
   unfoldable pub due_first : Command R → ℕ → Due X
   due_first k b =
       cond (eqb b 0x06) nothing
-      (cond (eqb b 0x15) (cond (ltb k.handed G.hand-overs) (due k.frame none) (due [] by-refusal)) (due [] by-doubt))
+      (cond (eqb b 0x15) (cond (ltb k.handed G.hand-overs) (due k.frame none) (due [] by_refusal)) (due [] by_doubt))
 
   -- "Good answer with the code asked: send 06h and close as answered. Any other full frame (bad) ..: send 15h"
   abbrev pub due_full : Verdict X → ℕ → Due X
   due_full bad n = due_nak n
   due_full (good x) n = due (0x06 ∷ []) (by_answer x)
-  due_full void n = due (0x06 ∷ []) by-refusal
+  due_full void n = due (0x06 ∷ []) by_refusal
 
   -- "From 01h the answer's length follows from the command that was sent, and the frame is judged when it is full"; f is what has come of it
   unfoldable pub due_later : Command R → List ℕ → ℕ → Due X
@@ -116,12 +116,12 @@ module _ {R X C : Type 0} (D : Dispenser R C) (G : Discipline R X) where
 
     -- the wait that goes on
     unfoldable pub wait : History R O Ending → ℕ
-    wait h = cond (some (begun h)) G.frame (cond (some (since h)) (cond (eqb (naks h) 0) G.answer G.after-nak) G.first)
+    wait h = cond (some (begun h)) G.frame (cond (some (since h)) (cond (eqb (naks h) 0) G.answer G.after_nak) G.first)
 
     -- "A wait ends by the tick that brings its sum to the limit or past it"; "No byte within the wait: unknown"; "lateness inside one: send 15h"; "No start
     -- within the wait: unknown"
     unfoldable pub due_tick : History R O Ending → ℕ → Due X
-    due_tick h ms = cond (ltb (waited turns h + ms) (wait h)) nothing (cond (some (begun h)) (due_nak (naks h)) (due [] by-doubt))
+    due_tick h ms = cond (ltb (waited turns h + ms) (wait h)) nothing (cond (some (begun h)) (due_nak (naks h)) (due [] by_doubt))
 
     -- what f says of the open command; "With nothing open, each byte is ignored"
     unfoldable pub while_open : History R O Ending → (Command R → Due X) → Due X
@@ -153,7 +153,7 @@ pub record AnsweredBy {R X C O : Type 0} (D : Dispenser R C) (G : Discipline R X
   pub older : List (Command R)
   pub split : commands D h ≡ newest ∷ older
   pub frame : List ℕ
-  pub fate : newest.fate ≡ answered-by frame
+  pub fate : newest.fate ≡ answered_by frame
   pub says : G.judges newest.asks frame ≡ good x
 
 -- the answer that a closing carries is what the very bytes say from which the sums are read

@@ -247,7 +247,7 @@ module _ (k : Work) (h : Replays k) (c : Call) where
       let some = length-record c.given in (
         λ e.
             by_cases full
-            (⊎_elim (λ y. y) (⊎_elim (λ y. omega (arith, counted.records-most, some)) (λ y. omega (arith, counted.records-most, counted.declined-most, some))))
+            (⊎_elim (λ y. y) (⊎_elim (λ y. omega (arith, counted.records_most, some)) (λ y. omega (arith, counted.records_most, counted.declined_most, some))))
             (λ y. absurd (not_full (write_record c.given c.out).answer (ap (λ (z : Noted). z.entry) (sym (cond-false _ _ (fails-false full y))) ∙ e))),
         λ l. ap (λ (z : Noted). z.entry) (cond-true _ _ (holds-true full (inl l))),
       )
@@ -277,7 +277,7 @@ pub live-is-replay : LiveIsReplay
 live-is-replay =
     record {
       at_first = fresh-replays;
-      taken-up = λ s h. resumes s (fed_piece fresh_replay s) refl h (on-fed s);
+      taken_up = λ s h. resumes s (fed_piece fresh_replay s) refl h (on-fed s);
       after = λ k cs h. calls-replay cs k h;
       reported = reports;
       size = λ k h. size_of k.recording (fed_piece fresh_replay k.recording) k.desk k.written h (on-fed k.recording);

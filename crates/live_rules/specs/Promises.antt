@@ -69,7 +69,7 @@ resumed s =
 -- the desk; and a record is refused for length, with 24, exactly where the recording would be over the limit
 pub record LiveIsReplay : Type 0 where
   pub at_first : Replays fresh_work
-  pub taken-up : (s : List ℕ) → ((why : Fault) (at : ℕ) → fed_piece fresh_replay s ≡ broken_at why at → ⊥) → Replays (resumed s)
+  pub taken_up : (s : List ℕ) → ((why : Fault) (at : ℕ) → fed_piece fresh_replay s ≡ broken_at why at → ⊥) → Replays (resumed s)
   pub after : (k : Work) (cs : List Call) → Replays k → Replays (works k cs)
   pub reported : (k : Work) → Replays k → replay_of k.recording ≡ told k.desk
   pub size : (k : Work) → Replays k → k.written ≡ length k.recording

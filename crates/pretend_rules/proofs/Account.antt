@@ -148,8 +148,8 @@ tick-spared h (sends a) ms =
 record Kept (t : Tallies) (h : History) : Type 0 where
   paid : (c : Cassette) → (cassette t c).paid.0 ≡ total paid_by (tellings h) c
   rejected : (c : Cassette) → (cassette t c).rejected.0 ≡ total rejected_by (tellings h) c
-  paid-most : (c : Cassette) → total paid_by (tellings h) c ≤ 99 * length (tellings h)
-  rejected-most : (c : Cassette) → total rejected_by (tellings h) c ≤ 99 * length (tellings h)
+  paid_most : (c : Cassette) → total paid_by (tellings h) c ≤ 99 * length (tellings h)
+  rejected_most : (c : Cassette) → total rejected_by (tellings h) c ≤ 99 * length (tellings h)
   few : length (tellings h) + owing (place h) ≤ answered h
   most : answered h ≤ answer_limit
 
@@ -160,8 +160,8 @@ kept_on t h e same few most k =
     record {
       paid = λ c. k.paid c ∙ ap (λ (l : List Answer). total paid_by l c) (sym same);
       rejected = λ c. k.rejected c ∙ ap (λ (l : List Answer). total rejected_by l c) (sym same);
-      paid-most = λ c. subst (λ (l : List Answer). total paid_by l c ≤ 99 * length l) (sym same) (k.paid-most c);
-      rejected-most = λ c. subst (λ (l : List Answer). total rejected_by l c ≤ 99 * length l) (sym same) (k.rejected-most c);
+      paid_most = λ c. subst (λ (l : List Answer). total paid_by l c ≤ 99 * length l) (sym same) (k.paid_most c);
+      rejected_most = λ c. subst (λ (l : List Answer). total rejected_by l c ≤ 99 * length l) (sym same) (k.rejected_most c);
       few = subst (λ (l : List Answer). length l + owing (place (e ∷ h)) ≤ answered (e ∷ h)) (sym same) few;
       most = most;
     }
@@ -191,13 +191,13 @@ module _ (t : Tallies) (h : History) (k : Kept t h) where
       let few : length (tellings h) + 1 ≤ answered h = omega (arith, k.few, ap owing p) in
       let adds-at : ((c : Cassette) → Adds t a c) = λ c.
       adds t a c
-      (record { paid = omega (arith, k.paid c, k.paid-most c, few, k.most); rejected = omega (arith, k.rejected c, k.rejected-most c, few, k.most) })
+      (record { paid = omega (arith, k.paid c, k.paid_most c, few, k.most); rejected = omega (arith, k.rejected c, k.rejected_most c, few, k.most) })
       (modest a c f) in
       record {
         paid = λ c. (adds-at c).paid ∙ ap (λ (n : ℕ). n + paid_by a c) (k.paid c);
         rejected = λ c. (adds-at c).rejected ∙ ap (λ (n : ℕ). n + rejected_by a c) (k.rejected c);
-        paid-most = λ c. omega (arith, k.paid-most c, (modest a c f).paid);
-        rejected-most = λ c. omega (arith, k.rejected-most c, (modest a c f).rejected);
+        paid_most = λ c. omega (arith, k.paid_most c, (modest a c f).paid);
+        rejected_most = λ c. omega (arith, k.rejected_most c, (modest a c f).rejected);
         few = omega (arith, few);
         most = omega (arith, k.most);
       }
@@ -242,8 +242,8 @@ fresh_kept =
     record {
       paid = zero-paid;
       rejected = zero-rejected;
-      paid-most = λ c. lit≤ tt;
-      rejected-most = λ c. lit≤ tt;
+      paid_most = λ c. lit≤ tt;
+      rejected_most = λ c. lit≤ tt;
       few = lit≤ tt;
       most = lit≤ tt;
     }

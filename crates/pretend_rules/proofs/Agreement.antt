@@ -49,7 +49,7 @@ device-room d x r h = certain (at_most 21 (length r)) (λ n. (((device.exactly-w
 next : (b : Bench) (k : Together b) (c : Call) → Kept lawful session (called b.host c).session (seen host b.host c ∷ k.trail)
 next b k c = next-kept lawful session b.host k.trail c k.kept
 
-host-heard-together : (b : Bench) (l r : List ℕ) → b.to-host ≡ l → HostTakes b.host l r → Together b → Together (host_heard b l r)
+host-heard-together : (b : Bench) (l r : List ℕ) → b.to_host ≡ l → HostTakes b.host l r → Together b → Together (host_heard b l r)
 host-heard-together b [] r e f k = k
 host-heard-together b (x ∷ rest) r e f k =
     record {
@@ -59,7 +59,7 @@ host-heard-together b (x ∷ rest) r e f k =
       joint = host-hears-joint b k x rest r e (host-room b.host x r f);
     }
 
-device-heard-together : (b : Bench) (l r : List ℕ) → b.to-device ≡ l → DeviceTakes b.device l r → Together b → Together (device_heard b l r)
+device-heard-together : (b : Bench) (l r : List ℕ) → b.to_device ≡ l → DeviceTakes b.device l r → Together b → Together (device_heard b l r)
 device-heard-together b [] r e f k = k
 device-heard-together b (x ∷ rest) r e f k =
     record {
@@ -89,8 +89,8 @@ moved-together b (host-waits ms r) f k =
       joint = host-waits-joint b k.joint ms r f;
     }
 moved-together b (device-waits ms r) f k = record { trail = k.trail; kept = k.kept; store = k.store; joint = device-waits-joint b k.joint ms r f }
-moved-together b (host-hears r) f k = host-heard-together b b.to-host r refl f k
-moved-together b (device-hears r) f k = device-heard-together b b.to-device r refl f k
+moved-together b (host-hears r) f k = host-heard-together b b.to_host r refl f k
+moved-together b (device-hears r) f k = device-heard-together b b.to_device r refl f k
 
 -- ---- any run
 

@@ -29,12 +29,12 @@ host-one b clears cs = refl
 host-one b (tells a r) cs = refl
 host-one b (host-waits ms r) cs = refl
 host-one b (device-waits ms r) cs = refl
-host-one b (host-hears r) cs = by b.to-host
+host-one b (host-hears r) cs = by b.to_host
   where
     by : (l : List ℕ) → run_calls host.host b.host (host_hears l r cs) ≡ run_calls host.host (host_heard b l r).host cs
     by [] = refl
     by (x ∷ rest) = refl
-host-one b (device-hears r) cs = by b.to-device
+host-one b (device-hears r) cs = by b.to_device
   where
     by : (l : List ℕ) → run_calls host.host b.host cs ≡ run_calls host.host (device_heard b l r).host cs
     by [] = refl
@@ -52,12 +52,12 @@ device-one b clears cs = refl
 device-one b (tells a r) cs = refl
 device-one b (host-waits ms r) cs = refl
 device-one b (device-waits ms r) cs = refl
-device-one b (host-hears r) cs = by b.to-host
+device-one b (host-hears r) cs = by b.to_host
   where
     by : (l : List ℕ) → run_calls device.host b.device cs ≡ run_calls device.host (host_heard b l r).device cs
     by [] = refl
     by (x ∷ rest) = refl
-device-one b (device-hears r) cs = by b.to-device
+device-one b (device-hears r) cs = by b.to_device
   where
     by : (l : List ℕ) → run_calls device.host b.device (device_hears l r cs) ≡ run_calls device.host (device_heard b l r).device cs
     by [] = refl

@@ -136,24 +136,24 @@ due-early got code h = rw (holds-true (under got 4) h)
 due-late : (got code : ℕ) → 4 ≤ got → due got code ≡ command_length code
 due-late got code h = rw (fails-false (under got 4) (λ g. omega arith))
 
-module _ (b : Bench) (k : Together b) (x : ℕ) (rest r : List ℕ) (e : b.to-device ≡ x ∷ rest) (long : 21 ≤ length r) where
+module _ (b : Bench) (k : Together b) (x : ℕ) (rest r : List ℕ) (e : b.to_device ≡ x ∷ rest) (long : 21 ≤ length r) where
   -- the device after what a byte makes
   abbrev heard_by : ByteAfter → Bench
-  heard_by w = device_called (record { host = b.host; device = b.device; to-device = rest; to-host = b.to-host }) (by_byte b.device w)
+  heard_by w = device_called (record { host = b.host; device = b.device; to_device = rest; to_host = b.to_host }) (by_byte b.device w)
 
   abbrev Hears : Hearing → Type 0
   Hears u = JointOf (heard_by (byte_acted u.heard u.wire b.device.answer b.device.store b.device.wire.gathered x r))
 
   -- nothing was on its way
-  nothing : {A : Type 0} → b.to-device ≡ [] → A
+  nothing : {A : Type 0} → b.to_device ≡ [] → A
   nothing n = absurd (let z : ◌≡◌ {A = ℕ} 0 1 = cc in omega arith)
 
   -- the host stands where it stood
   on : {p : Phase} (q : Stand) (v : View) → b.host.line.phase ≡ p → Joint p q v → Joint b.host.line.phase q v
   on q v d j = subst (λ (p : Phase). Joint p q v) (sym d) j
 
-  none-put : {l : List ℕ} → b.to-host ≡ l → b.to-host ++ [] ≡ l
-  none-put g = append-nil b.to-host ∙ g
+  none-put : {l : List ℕ} → b.to_host ≡ l → b.to_host ++ [] ≡ l
+  none-put g = append-nil b.to_host ∙ g
 
   -- 06h to an answer ends the exchange
   ends : b.host.line.phase ≡ Idle → Settled (0x06 ∷ []) [] (view b) → Hears (answer_byte b.device.wire x)

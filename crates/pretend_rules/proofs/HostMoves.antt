@@ -139,10 +139,10 @@ module _ (b : Bench) (j : JointOf b) (code upper lower : ℕ) (r : List ℕ) whe
 
 -- ---- a byte
 
-module _ (b : Bench) (k : Together b) (x : ℕ) (rest r : List ℕ) (e : b.to-host ≡ x ∷ rest) (long : 16 ≤ length r) where
+module _ (b : Bench) (k : Together b) (x : ℕ) (rest r : List ℕ) (e : b.to_host ≡ x ∷ rest) (long : 16 ≤ length r) where
   -- after a call with the byte
   abbrev heard : After → Bench
-  heard w = host_called (record { host = b.host; device = b.device; to-device = b.to-device; to-host = rest }) w
+  heard w = host_called (record { host = b.host; device = b.device; to_device = b.to_device; to_host = rest }) w
 
   abbrev Hears : Type 0
   Hears = JointOf (heard (session_byte b.host x r))
@@ -155,11 +155,11 @@ module _ (b : Bench) (k : Together b) (x : ℕ) (rest r : List ℕ) (e : b.to-ho
       (subst (λ (p : Phase). Joint p b.device.wire.stand (view (heard w))) (sym m) (subst (λ (q : Stand). Joint p q (view (heard w))) (sym d) j))
 
   -- nothing was on its way
-  nothing : {A : Type 0} → b.to-host ≡ [] → A
+  nothing : {A : Type 0} → b.to_host ≡ [] → A
   nothing n = absurd (let z : ◌≡◌ {A = ℕ} 0 1 = cc in omega arith)
 
-  none-put : {l : List ℕ} → b.to-device ≡ l → b.to-device ++ [] ≡ l
-  none-put g = append-nil b.to-device ∙ g
+  none-put : {l : List ℕ} → b.to_device ≡ l → b.to_device ++ [] ≡ l
+  none-put g = append-nil b.to_device ∙ g
 
   -- 06h, with the answer right behind it
   answer-next : b.host.line.phase ≡ First → b.device.wire.stand ≡ Sent → Answering [] (0x06 ∷ []) (view b) → Hears

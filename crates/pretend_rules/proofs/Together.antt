@@ -60,8 +60,8 @@ view b =
       code = b.device.code;
       tallied = b.device.tallies;
       answered = b.device.wire.answered;
-      down = b.to-device;
-      up = b.to-host;
+      down = b.to_device;
+      up = b.to_host;
     }
 
 -- the frame of the host's command

@@ -26,12 +26,12 @@ use Rattle.pretend_rules.specs.declared.device.Device.{Device}
 pub record Bench : Type 0 where
   pub host : Session
   pub device : Device
-  pub to-device : List ℕ
-  pub to-host : List ℕ
+  pub to_device : List ℕ
+  pub to_host : List ℕ
 
 -- "both ends start fresh"
 abbrev pub fresh_bench : Bench
-fresh_bench = record { host = fresh_session; device = fresh_device; to-device = []; to-host = [] }
+fresh_bench = record { host = fresh_session; device = fresh_device; to_device = []; to_host = [] }
 
 -- one thing that happens, with the room that is lent to the call: the host is asked for a command (code, upper, lower); the operator clears its line; the device is told the
 -- answer's fields; so many milliseconds pass at an end; the next byte on its way arrives at an end. Time passes at each end by its own ticks
@@ -55,8 +55,8 @@ host_called b w =
     record {
       host = w.session;
       device = b.device;
-      to-device = b.to-device ++ bytes_of (host_returned w.reply) w.room;
-      to-host = b.to-host;
+      to_device = b.to_device ++ bytes_of (host_returned w.reply) w.room;
+      to_host = b.to_host;
     }
 
 abbrev pub device_called : Bench → After → Bench
@@ -64,20 +64,20 @@ device_called b w =
     record {
       host = b.host;
       device = w.session;
-      to-device = b.to-device;
-      to-host = b.to-host ++ bytes_of (returned w.reply) w.room;
+      to_device = b.to_device;
+      to_host = b.to_host ++ bytes_of (returned w.reply) w.room;
     }
 
 -- "every byte crosses unchanged, in order .., no other byte arrives": the first of those on their way, where there is one
 abbrev pub host_heard : Bench → List ℕ → List ℕ → Bench
 host_heard b [] r = b
 host_heard b (x ∷ rest) r =
-    host_called (record { host = b.host; device = b.device; to-device = b.to-device; to-host = rest }) (session_byte b.host x r)
+    host_called (record { host = b.host; device = b.device; to_device = b.to_device; to_host = rest }) (session_byte b.host x r)
 
 abbrev pub device_heard : Bench → List ℕ → List ℕ → Bench
 device_heard b [] r = b
 device_heard b (x ∷ rest) r =
-    device_called (record { host = b.host; device = b.device; to-device = rest; to-host = b.to-host }) (device_byte b.device x r)
+    device_called (record { host = b.host; device = b.device; to_device = rest; to_host = b.to_host }) (device_byte b.device x r)
 
 abbrev pub moved : Bench → Move → Bench
 moved b (asks code upper lower r) = host_called b (session_request b.host code upper lower r)
@@ -85,8 +85,8 @@ moved b clears = host_called b (session_clear b.host)
 moved b (tells answer r) = device_called b (device_tell b.device answer r)
 moved b (host-waits ms r) = host_called b (session_tick b.host ms r)
 moved b (device-waits ms r) = device_called b (device_tick b.device ms r)
-moved b (host-hears r) = host_heard b b.to-host r
-moved b (device-hears r) = device_heard b b.to-device r
+moved b (host-hears r) = host_heard b b.to_host r
+moved b (device-hears r) = device_heard b b.to_device r
 
 unfoldable pub run : Bench → List Move → Bench
 run b [] = b
@@ -126,8 +126,8 @@ Smooth b clears = Unit {0}
 Smooth b (tells answer r) = Unit {0}
 Smooth b (host-waits ms r) = IsDone (host_returned (session_tick b.host ms r).reply) → HostInTime b.host.line.phase b.host.line.left ms
 Smooth b (device-waits ms r) = IsDone (returned (device_tick b.device ms r).reply) → DeviceInTime b.device.wire.stand b.device.wire.left ms
-Smooth b (host-hears r) = HostTakes b.host b.to-host r
-Smooth b (device-hears r) = DeviceTakes b.device b.to-device r
+Smooth b (host-hears r) = HostTakes b.host b.to_host r
+Smooth b (device-hears r) = DeviceTakes b.device b.to_device r
 
 -- "the host opens nothing while the device is busy"
 abbrev pub Free : Bench → Move → Type 0

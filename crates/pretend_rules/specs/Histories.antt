@@ -26,7 +26,7 @@ host_call b clears cs = host.clear ∷ cs
 host_call b (tells a r) cs = cs
 host_call b (host-waits ms r) cs = host.tick ms r ∷ cs
 host_call b (device-waits ms r) cs = cs
-host_call b (host-hears r) cs = host_hears b.to-host r cs
+host_call b (host-hears r) cs = host_hears b.to_host r cs
 host_call b (device-hears r) cs = cs
 
 abbrev pub device_call : Bench → Move → List device.Call → List device.Call
@@ -36,7 +36,7 @@ device_call b (tells a r) cs = device.tell a r ∷ cs
 device_call b (host-waits ms r) cs = cs
 device_call b (device-waits ms r) cs = device.tick ms r ∷ cs
 device_call b (host-hears r) cs = cs
-device_call b (device-hears r) cs = device_hears b.to-device r cs
+device_call b (device-hears r) cs = device_hears b.to_device r cs
 
 -- the calls that a run makes on each end
 unfoldable pub host_calls : Bench → List Move → List host.Call

@@ -22,7 +22,7 @@ use Rattle.error_codes.specs.Errors.{class_name}
 use Rattle.error_codes.specs.declared.ErrorClass.{ErrorClass}
 use Rattle.error_codes.specs.declared.ErrorClass.TheVariants.{Fine, OutOfNotes, NotSeated, Jam, CountInDoubt, OtherListed, Unlisted}
 use Rattle.dispenser_rules.specs.declared.session.Session.{Session}
-use Rattle.dispenser_rules.proofs.Demand3.{never-cut}
+use Rattle.dispenser_rules.proofs.Demand3.{never_cut}
 use Rattle.dispenser_frame_rules.specs.declared.answer.Cassette.TheVariants.{Upper, Lower}
 use Rattle.validator_rules.specs.Limits.{types}
 use Rattle.validator_rules.specs.Bills.{bills, booked_by, plus}
@@ -80,14 +80,14 @@ record Few (s : Sums) : Type 0 where
 bounded-few : (s : Sums) → Within 99 1_000_000 1_000_000 s → Few s
 bounded-few s b =
     record {
-      asked = omega (arith, b.asked-most);
-      paid = omega (arith, b.paid-most);
-      short = omega (arith, b.short-most);
-      over = omega (arith, b.over-most);
-      refused = omega (arith, b.refused-most);
-      unknown = omega (arith, b.unknown-most);
-      pending = omega (arith, b.pending-most);
-      rejected = omega (arith, b.rejected-most);
+      asked = omega (arith, b.asked_most);
+      paid = omega (arith, b.paid_most);
+      short = omega (arith, b.short_most);
+      over = omega (arith, b.over_most);
+      refused = omega (arith, b.refused_most);
+      unknown = omega (arith, b.unknown_most);
+      pending = omega (arith, b.pending_most);
+      rejected = omega (arith, b.rejected_most);
     }
 
 sums-most : (name : List ℕ) (s : Sums) → length name ≤ 5 → Few s → length (line (sums_line name s)) ≤ 146
@@ -227,14 +227,14 @@ good-enough s xs h e =
     let w = (exactly-when.good s xs h).0 e in
     let p = as-recorded-whole s xs h e in
     let r = p.1 in
-    let cut = never-cut (calls xs) in
+    let cut = never_cut (calls xs) in
     let n : length xs ≤ 4_294_967_295 = omega (arith, w.0, laid-many xs, ap length w.2) in
     let c = session-ran xs in
     let b : (k : ℕ) → k < 24 → (get_or (run fresh_desk xs).validator.bills k (bills 0)).0 < end32
-    = λ k l. omega (arith, sym (ap (λ (f : Findings). (get_or f.bills k (bills 0)).0) (good_replay s xs e)) ∙ r.bills-told k l, kept-by-history.few (taker_calls xs p.0) k l) in
+    = λ k l. omega (arith, sym (ap (λ (f : Findings). (get_or f.bills k (bills 0)).0) (good_replay s xs e)) ∙ r.bills_told k l, kept-by-history.few (taker_calls xs p.0) k l) in
     rw (good_replay s xs e)
     (good-most (run fresh_desk xs).dispenser.account.cassettes (run fresh_desk xs).errors (run fresh_desk xs).validator.bills (run fresh_desk xs).validator.table (run fresh_desk xs).declined (run fresh_desk xs).records
-    (λ k. subst (λ (t : List ℕ). (word_at t k).first < 256) (sym (sym (ap (λ (f : Findings). f.table) (good_replay s xs e)) ∙ r.table-told)) (first_small (taker_calls xs p.0) k))
+    (λ k. subst (λ (t : List ℕ). (word_at t k).first < 256) (sym (sym (ap (λ (f : Findings). f.table) (good_replay s xs e)) ∙ r.table_told)) (first_small (taker_calls xs p.0) k))
     (subst (λ (y : Session). Few y.account.cassettes.upper) (sym c) (bounded-few (ran host fresh_session (calls xs)).account.cassettes.upper (cut Upper)))
     (subst (λ (y : Session). Few y.account.cassettes.lower) (sym c) (bounded-few (ran host fresh_session (calls xs)).account.cassettes.lower (cut Lower)))
     (bills-ran fresh_desk xs ∙ fresh-bills)

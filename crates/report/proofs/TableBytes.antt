@@ -15,7 +15,7 @@ use Rattle.bill_table.specs.declared.Word.{Word}
 use Rattle.ledger.specs.Events.{Deed, asks, hears, waits, own, Left, goes_on, closes, declined, done, is_frame, since}
 use Rattle.ledger.specs.Calls.{Returned, gave, did, told, history_from}
 use Rattle.validator_rules.specs.Session.{fresh_session, session_request, session_byte, session_tick}
-use Rattle.validator_rules.specs.Calls.{Call, request, byte, tick, Request, Own, Ending, acknowledged, not-acknowledged, illegal-command, answered, damaged, silent, Known, Past, returned, ending, host, history}
+use Rattle.validator_rules.specs.Calls.{Call, request, byte, tick, Request, Own, Ending, acknowledged, not_acknowledged, illegal_command, answered, damaged, silent, Known, Past, returned, ending, host, history}
 use Rattle.validator_rules.specs.History.{last_code, from_start, between, body_by, body_once, answer_to, table_by}
 use Rattle.validator_rules.specs.declared.session.Closing.{Closing}
 use Rattle.validator_rules.specs.declared.session.Session.{Session}
@@ -98,8 +98,8 @@ since-bytes (done (own o) put left ∷ h) k = absurd o
 
 body_bytes : (m : Ending) (h : Past) (b : ℕ) → Small h → b < 256 → AllBytes (body_by m 0x41 h b)
 body_bytes acknowledged h b k l = no_bytes
-body_bytes not-acknowledged h b k l = no_bytes
-body_bytes illegal-command h b k l = no_bytes
+body_bytes not_acknowledged h b k l = no_bytes
+body_bytes illegal_command h b k l = no_bytes
 body_bytes (answered c) h b k l = by (eqb (last_code h) 0x41)
   where
     by : (t : Bool) → AllBytes (cond t (between (from_start (since h ++ (b ∷ [])))) [])

@@ -31,7 +31,7 @@ use Rattle.validator_rules.specs.Line.{hearing, is_open as open_in, opened, clos
 use Rattle.validator_rules.specs.Bills.{bills, booked_by, poll, remembered}
 use Rattle.validator_rules.specs.Session.{ack, nak, LentAfter, StepAfter, step_after, refused_step, lent_after, HeardAfter, heard_after, after_step, after_byte, zeros, damaged_step, answered_step, class_step, class_to, found_in, found, judged_step, judge_step, acted, byte_acted, byte_refusals, tick_refusals, request_refusals, byte_step, tick_step, request_step, fresh_session, session_request, session_byte, session_tick}
 use Rattle.validator_rules.specs.History.{last_code, from_start, between, answer_to, reported, counted, table_by, gathered as so_far, Carries, Other, Means, Says, Unfinished, starts, GoesOnBy, Truly, KeptByHistory, history_refusals, DeclinesByHistory}
-use Rattle.validator_rules.specs.Calls.{Call, request, byte, tick, Request, Own, Ending, acknowledged, not-acknowledged, illegal-command, answered, damaged, silent, Known, Past, ending, returned, host, history}
+use Rattle.validator_rules.specs.Calls.{Call, request, byte, tick, Request, Own, Ending, acknowledged, not_acknowledged, illegal_command, answered, damaged, silent, Known, Past, ending, returned, host, history}
 use Rattle.validator_rules.specs.declared.bills.Bills.{Bills}
 use Rattle.validator_rules.specs.declared.line.Phase.{Phase}
 use Rattle.validator_rules.specs.declared.line.Phase.TheVariants.{Idle, Start, Inside}
@@ -230,9 +230,9 @@ module _ (s : Session) (h : Past) (k : Agrees s h) where
       heard-class Ack e =
           closes-agrees l s.bills h k.base fewer _ (heard-ends h b _ acknowledged) s.table refl ((live, heard-says Ack e refl (λ u. let z : ◌≡◌ {A = ℕ} 0 1 = cc in omega arith)), (refl, k.truly))
       heard-class Nak e =
-          closes-agrees l s.bills h k.base fewer _ (heard-ends h b _ not-acknowledged) s.table refl ((live, heard-says Nak e refl (λ u. let z : ◌≡◌ {A = ℕ} 0 1 = cc in omega arith)), (refl, k.truly))
+          closes-agrees l s.bills h k.base fewer _ (heard-ends h b _ not_acknowledged) s.table refl ((live, heard-says Nak e refl (λ u. let z : ◌≡◌ {A = ℕ} 0 1 = cc in omega arith)), (refl, k.truly))
       heard-class Illegal e =
-          closes-agrees l s.bills h k.base fewer _ (heard-ends h b _ illegal-command) s.table refl ((live, heard-says Illegal e refl (λ u. let z : ◌≡◌ {A = ℕ} 0 1 = cc in omega arith)), (refl, k.truly))
+          closes-agrees l s.bills h k.base fewer _ (heard-ends h b _ illegal_command) s.table refl ((live, heard-says Illegal e refl (λ u. let z : ◌≡◌ {A = ℕ} 0 1 = cc in omega arith)), (refl, k.truly))
       heard-class (State x) e = subst (λ (c : Class). Next s h (hears b) (answered_step (closed l) c r)) (sym e) (heard-answered (gets e refl))
       heard-class (Busy x) e = subst (λ (c : Class). Next s h (hears b) (answered_step (closed l) c r)) (sym e) (heard-answered (gets e refl))
       heard-class (Rejecting x) e = subst (λ (c : Class). Next s h (hears b) (answered_step (closed l) c r)) (sym e) (heard-answered (gets e refl))

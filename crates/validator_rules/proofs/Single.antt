@@ -16,7 +16,7 @@ use Rattle.ccnet_frame.proofs.Frames.{frame-length, frame-judged, frame-body}
 use Rattle.ccnet_class.proofs.Classes.{classes}
 use Rattle.ledger.specs.Events.{asks, hears, waits, own, goes_on, closes, since}
 use Rattle.ledger.specs.Waiting.{waited}
-use Rattle.validator_rules.specs.Calls.{Ending, acknowledged, not-acknowledged, illegal-command, answered, damaged, silent}
+use Rattle.validator_rules.specs.Calls.{Ending, acknowledged, not_acknowledged, illegal_command, answered, damaged, silent}
 use Rattle.validator_rules.specs.Session.{class_to}
 use Rattle.validator_rules.specs.History.{last_code, from_start, between, Carries, Unfinished, Says, starts, Lapses, InTime, OneDue}
 use Rattle.validator_rules.proofs.Past.{third}
@@ -25,8 +25,8 @@ use Rattle.validator_rules.proofs.Telling.{replied, reply-to, plain-to, means_is
 -- the closing that a body calls for
 abbrev closing : Class → Ending
 closing Ack = acknowledged
-closing Nak = not-acknowledged
-closing Illegal = illegal-command
+closing Nak = not_acknowledged
+closing Illegal = illegal_command
 closing (State b) = answered (State b)
 closing (Busy b) = answered (Busy b)
 closing (Rejecting b) = answered (Rejecting b)
@@ -71,8 +71,8 @@ module _ (code : ℕ) (f : List ℕ) where
   -- a byte that closes does not leave the bytes unfinished
   said-finished : (k : Ending) → Says code k f → Unfinished f → ⊥
   said-finished acknowledged is u = finished (0x00 ∷ []) is u
-  said-finished not-acknowledged is u = finished (0xFF ∷ []) is u
-  said-finished illegal-command is u = finished (0x30 ∷ []) is u
+  said-finished not_acknowledged is u = finished (0xFF ∷ []) is u
+  said-finished illegal_command is u = finished (0x30 ∷ []) is u
   said-finished (answered c) is u = finished (between f) is.0 u
   said-finished damaged is u = is.0 u
   said-finished silent is u = is
@@ -90,8 +90,8 @@ module _ (code : ℕ) (f : List ℕ) where
 
   told : (k : Ending) → Says code k f → Told k
   told acknowledged is = by-class Ack tt refl is
-  told not-acknowledged is = by-class Nak tt refl is
-  told illegal-command is = by-class Illegal tt refl is
+  told not_acknowledged is = by-class Nak tt refl is
+  told illegal_command is = by-class Illegal tt refl is
   told (answered c) is =
       let gets = other-replied (between f) is.1.0 in
       let to = means_is (between f) code c gets is.1.1 in
@@ -113,8 +113,8 @@ module _ (code : ℕ) (f : List ℕ) where
 
     late : (k : Ending) → Lapses k f t → Late k
     late acknowledged is = absurd is
-    late not-acknowledged is = absurd is
-    late illegal-command is = absurd is
+    late not_acknowledged is = absurd is
+    late illegal_command is = absurd is
     late (answered c) is = absurd is
     late damaged is = inl (is.0, refl)
     late silent is = inr (is.0, refl)
@@ -128,8 +128,8 @@ module _ (code : ℕ) (f : List ℕ) where
 
     not_late : (k : Ending) → Lapses k f t → InTime f t → ⊥
     not_late acknowledged is u = is
-    not_late not-acknowledged is u = is
-    not_late illegal-command is u = is
+    not_late not_acknowledged is u = is
+    not_late illegal_command is u = is
     not_late (answered c) is u = is
     not_late damaged is u = omega (arith, is.1, u.1 is.0)
     not_late silent is u = omega (arith, is.1, u.0 is.0)

@@ -34,8 +34,8 @@ Own = ⊥
 -- the ways in which a command can close
 pub data Ending : Type 0 where
   acknowledged : Ending
-  not-acknowledged : Ending
-  illegal-command : Ending
+  not_acknowledged : Ending
+  illegal_command : Ending
   answered : Class → Ending
   damaged : Ending
   silent : Ending
@@ -61,8 +61,8 @@ returned (Done n closing) = did n closing
 abbrev pub ending : Closing → Left Ending
 ending Nothing = goes_on
 ending Acknowledged = closes acknowledged
-ending NotAcknowledged = closes not-acknowledged
-ending IllegalCommand = closes illegal-command
+ending NotAcknowledged = closes not_acknowledged
+ending IllegalCommand = closes illegal_command
 ending (Answered c) = closes (answered c)
 ending Damaged = closes damaged
 ending Silent = closes silent

@@ -15,7 +15,7 @@ use Rattle.ledger.specs.Calls.{run, Declines}
 use Rattle.validator_rules.specs.Limits.{quiet, start_wait, frame_wait, least_room, command_limit, store_size, types}
 use Rattle.validator_rules.specs.Bills.{bills, poll}
 use Rattle.validator_rules.specs.Session.{is_command, ack, nak, fresh_session, session_request}
-use Rattle.validator_rules.specs.Calls.{Call, Request, Own, Ending, acknowledged, not-acknowledged, illegal-command, answered, damaged, silent, Known, Past, host, history}
+use Rattle.validator_rules.specs.Calls.{Call, Request, Own, Ending, acknowledged, not_acknowledged, illegal_command, answered, damaged, silent, Known, Past, host, history}
 use Rattle.refusals.specs.declared.Declined.{Declined}
 use Rattle.refusals.specs.declared.Declined.TheVariants.{Room, Range, Open, Unquiet, Spent}
 
@@ -42,8 +42,8 @@ between f = take (length f - 5) (drop 3 f)
 -- answered, or had another code
 abbrev pub body_by : Ending → ℕ → Past → ℕ → List ℕ
 body_by acknowledged code h b = []
-body_by not-acknowledged code h b = []
-body_by illegal-command code h b = []
+body_by not_acknowledged code h b = []
+body_by illegal_command code h b = []
 body_by (answered c) code h b = cond (eqb (last_code h) code) (between (from_start (since h ++ (b ∷ [])))) []
 body_by damaged code h b = []
 body_by silent code h b = []
@@ -130,8 +130,8 @@ Unfinished f = (2 ≤ length f → get_or f 1 0 ≡ 0x03) × (3 ≤ length f →
 -- address (not 03h) or length byte, at that byte, a wrong check"), neither that nor unfinished. No byte closes as silent
 abbrev pub Says : ℕ → Ending → List ℕ → Type 0
 Says code acknowledged f = Carries f (0x00 ∷ [])
-Says code not-acknowledged f = Carries f (0xFF ∷ [])
-Says code illegal-command f = Carries f (0x30 ∷ [])
+Says code not_acknowledged f = Carries f (0xFF ∷ [])
+Says code illegal_command f = Carries f (0x30 ∷ [])
 Says code (answered c) f = Carries f (between f) × (Other (between f) × Means code (between f) c)
 Says code damaged f = (Unfinished f → ⊥) × ((body : List ℕ) → Carries f body → ⊥)
 Says code silent f = ⊥
@@ -147,8 +147,8 @@ starts h (own o) = false
 -- closes as silent"
 abbrev pub Lapses : Ending → List ℕ → ℕ → Type 0
 Lapses acknowledged f t = ⊥
-Lapses not-acknowledged f t = ⊥
-Lapses illegal-command f t = ⊥
+Lapses not_acknowledged f t = ⊥
+Lapses illegal_command f t = ⊥
 Lapses (answered c) f t = ⊥
 Lapses damaged f t = (f ≡ [] → ⊥) × (frame_wait ≤ t)
 Lapses silent f t = (f ≡ []) × (start_wait ≤ t)
@@ -180,8 +180,8 @@ Due (closes k) d h = (is_open h ≡ true) × ClosesBy d k h
 abbrev pub reply : Left Ending → List ℕ
 reply goes_on = []
 reply (closes acknowledged) = []
-reply (closes not-acknowledged) = []
-reply (closes illegal-command) = []
+reply (closes not_acknowledged) = []
+reply (closes illegal_command) = []
 reply (closes (answered c)) = ack
 reply (closes damaged) = nak
 reply (closes silent) = []

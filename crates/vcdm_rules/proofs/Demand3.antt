@@ -55,8 +55,8 @@ after-calls cs = run-kept lawful session fresh_counted [] cs fresh_kept
 pub always-sound : AlwaysSound
 always-sound cs = (after-calls cs).sound
 
-pub never-cut : NeverCut
-never-cut cs c =
+pub never_cut : NeverCut
+never_cut cs c =
     let k = (after-calls cs).sound in
     let l = (run host fresh_counted cs).session.line in
     let few : settled l.phase l.accepted ≤ command_limit = le_trans (settled-most l.phase l.accepted) k.commands in

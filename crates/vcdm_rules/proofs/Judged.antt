@@ -120,8 +120,8 @@ pub judged-exactly : Judged
 judged-exactly =
     record {
       repeated = λ q f. (void-repeats q f (read_answer f) refl, repeats-void q f);
-      another-serial = λ q f c n. bad-serial q f (read_answer f) refl c n;
-      another-code = λ q f n. bad-code q f (read_answer f) refl n;
+      another_serial = λ q f c n. bad-serial q f (read_answer f) refl c n;
+      another_code = λ q f n. bad-code q f (read_answer f) refl n;
     }
 
 -- ---- no other answer alters a sum

@@ -207,7 +207,7 @@ lawful =
       paid = λ q f x k h e. (books-good fresh_account q h f x k e).paid;
       spoilt = λ q f x k h e. (books-good fresh_account q h f x k e).spoilt;
       opens = opens_by;
-      closes-refused = refuses-by;
-      closes-unknown = loses-by;
+      closes_refused = refuses-by;
+      closes_unknown = loses-by;
       answers = λ a q f x k h e p. (books-good a q h f x k e).booked p;
     }

@@ -33,9 +33,9 @@ pub record Judged : Type 0 where
   -- exactly such a frame is acknowledged and closes the command as refused
   pub repeated : (q : Request) (f : List ℕ) → (unit.judges q f ≡ void) ↔ Repeats q f
   -- "An answer with another serial is bad"
-  pub another-serial : (q : Request) (f : List ℕ) → q.code ≡ 0x52 → (get_or f 5 0 ≡ q.serial → ⊥) → unit.judges q f ≡ bad
+  pub another_serial : (q : Request) (f : List ℕ) → q.code ≡ 0x52 → (get_or f 5 0 ≡ q.serial → ⊥) → unit.judges q f ≡ bad
   -- an answer with another code is bad
-  pub another-code : (q : Request) (f : List ℕ) → (code_of f ≡ q.code → ⊥) → unit.judges q f ≡ bad
+  pub another_code : (q : Request) (f : List ℕ) → (code_of f ≡ q.code → ⊥) → unit.judges q f ≡ bad
 
 -- "Last status alters no sum", nor does a purge, a reset or a status: whatever a good answer to another code than 52h says
 abbrev pub AltersNone : Type 0

@@ -2,7 +2,7 @@
 -- bytes say of each cassette (02, Q-3).
 use Rattle.std.specs.Prelude.{ℕ, ◌-◌, Bool, true, false, List, get_or}
 use Rattle.ledger.specs.Account.{Dispenser}
-use Rattle.ledger.specs.Told.{Verdict, bad, good, void, Closing as PlainClosing, none, by_answer, by-refusal, by-doubt}
+use Rattle.ledger.specs.Told.{Verdict, bad, good, void, Closing as PlainClosing, none, by_answer, by_refusal, by_doubt}
 use Rattle.exchange_rules.specs.Machine.{Model, Box, Call as PlainCall, request as asks, byte as hears, tick as waits}
 use Rattle.exchange_rules.specs.declared.notes.Sums.{Sums}
 use Rattle.vcdm_frame_rules.specs.Table.{answer_length}
@@ -100,8 +100,8 @@ unit =
       pays = λ q. false;
       cassette = cassette;
       opens = λ a q. account_opened a q.counts;
-      closes-refused = λ a q. account_refused a q.counts;
-      closes-unknown = λ a q. account_unknown a q.counts;
+      closes_refused = λ a q. account_refused a q.counts;
+      closes_unknown = λ a q. account_unknown a q.counts;
       answers = λ a q x. account_answered a q.counts x;
       bytes = vcdm;
       longest = 30;
@@ -132,5 +132,5 @@ lent (tick ms r) = r
 abbrev pub plain_closing : Closing → PlainClosing Answer
 plain_closing Nothing = none
 plain_closing (Answered answer) = by_answer answer
-plain_closing Refused = by-refusal
-plain_closing Unknown = by-doubt
+plain_closing Refused = by_refusal
+plain_closing Unknown = by_doubt

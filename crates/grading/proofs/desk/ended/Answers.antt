@@ -8,7 +8,7 @@ use Rattle.grading.proofs.desk.ended.Goals as goal
 
 pub overflow_cast-at : goal.overflow_cast-at
 overflow_cast-at c =
-    record { fits = omega (arith, ended-start c.args.replay.reader (sym c.ended.ensures ∙ c.in-Bad.is), c.requires.start-most) }
+    record { fits = omega (arith, ended-start c.args.replay.reader (sym c.ended.ensures ∙ c.in-Bad.is), c.requires.start_most) }
 
 pub returns-in-Good : goal.returns-in-Good
 unfolding ended_replay

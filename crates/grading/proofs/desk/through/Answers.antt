@@ -21,8 +21,8 @@ pub loop-i-init : goal.loop-i-init
 loop-i-init c = (
   omega arith,
   omega (arith, c.requires.1.1.1),
-  omega (arith, c.requires.0.declined-most),
-  omega (arith, c.requires.0.records-most),
+  omega (arith, c.requires.0.declined_most),
+  omega (arith, c.requires.0.records_most),
   c.glances_in-all.ensures,
   eq-le c.glances_in-glances.ensures,
   λ e. begun-inside c.args.replay.reader.place c.requires.1.0 (sym c.is_begun-cut.ensures ∙ e),

@@ -7,7 +7,7 @@ use Rattle.grading.proofs.desk.within.Goals as goal
 
 pub returns-then-left-eq0 : goal.returns-then-left-eq0
 returns-then-left-eq0 c =
-    c.past.ensures ∙ all_past c.args.replay c.args.piece.now (omega (arith, c.if-left-eq0.true, c.requires.0.fed-most)) c.requires.1.1
+    c.past.ensures ∙ all_past c.args.replay c.args.piece.now (omega (arith, c.if-left-eq0.true, c.requires.0.fed_most)) c.requires.1.1
 
 pub slice_bounds-through-end : goal.slice_bounds-through-end
 slice_bounds-through-end c = omega (arith, c.least-n.ensures.first)
@@ -26,4 +26,4 @@ returns c =
     let l = c.least-n.ensures in
     let h = c.if-n-piece.false in
     past-part c.args.replay c.args.piece.now c.least-n.result c.through-after.ensures c.past-2.ensures
-    (omega (arith, l.other (omega (arith, l.first, h)), c.requires.0.fed-most)) (omega (arith, l.first, h))
+    (omega (arith, l.other (omega (arith, l.first, h)), c.requires.0.fed_most)) (omega (arith, l.first, h))
