@@ -10,7 +10,7 @@
 #   hold              takes the lock under which one call at a time proves and builds
 #
 # Programs that are built stand in built/, each under a name that tells what it was built of. So a call that only runs one writes nothing, and
-# neither rt, which writes target/, nor another call takes it away while it is in use.
+# neither rt, which writes crates/NAME/out/, nor another call takes it away while it is in use.
 
 built=$top/built
 newline='
@@ -61,16 +61,11 @@ find_kit() {
     [ -n "$kit" ] || stop "rt is not on the path. The Rattle kit is needed: $(cat "$top/kit.txt")"
     [ -r "$kit/KIT-ID" ] || stop "there is no Rattle kit at $kit"
     IFS= read -r kit_id <"$kit/KIT-ID" || :
-    tools=$kit/on/$(uname -m)/toolchain
-    [ -e "$tools" ] || stop "the Rattle kit at $kit has nothing for this kind of machine, $(uname -m)"
+    [ "$(uname -m)" = x86_64 ] || stop "the Rattle kit at $kit has nothing for this kind of machine, $(uname -m)"
 }
 
-# As rt runs it: with the kit's loader and C library, and under the kit's emulator where the machine is no x86-64.
-run() {
-    emulator=$tools/bin/qemu-x86_64
-    [ -x "$emulator" ] || emulator=''
-    exec ${emulator:+"$emulator"} "$tools/lib/ld-linux-x86-64.so.2" --library-path "$tools/lib" "$program" "$@"
-}
+# As rt runs it: a program for x86-64 Linux.
+run() { exec "$program" "$@"; }
 
 # Standard error is lent as descriptor 4: where it is a terminal, the program shows there how far it is.
 ask() {
@@ -145,11 +140,14 @@ build() { # PROGRAM
     else
         say "proving and building the program first; from nothing this takes some minutes"
     fi
-    (CDPATH='' cd -- "$top" && RT_CUT=${RT_CUT:-400} "$kit/bin/rt" check "$1") </dev/null >&2 || stop "the program is not proved, as said above"
+    made=$top/crates/$1/out/$1 new=$built/.$1.$$
+    rm -f -- "$made"
+    # rt builds what is proved where it is to run it: here on an empty input and with no words, on which no program of this repository writes a file. What rt says is
+    # shown up to there
+    (CDPATH='' cd -- "$top/crates/$1" && "$kit/bin/rt" run) </dev/null 2>&1 >/dev/null | sed '/^rt: running out\//,$d' >&2
+    [ -x "$made" ] || stop "the program is not proved, as said above"
     fingerprint "$1"
     [ "$sum" = "$2" ] || stop "the sources have changed while they were proved; call again"
-    made=$top/target/bin/$1 new=$built/.$1.$$
-    [ -x "$made" ] || stop "rt has proved the program, and yet there is no $made: remove the folder target and call again"
     if ! { cp -- "$made" "$new" && cmp -s -- "$made" "$new"; }; then
         rm -f -- "$new"
         stop "$made could not be copied, or was built once more meanwhile; call again"
