@@ -1,12 +1,11 @@
 -- What a word says and what a total is, exactly when; and that a total is as many times the value of one bill, to the last place. Assumes nothing.
 use Prim.Native.Nat.{ℕ, ◌+◌, ◌-◌, ◌*◌, ◌^◌, ◌≤◌, ◌<◌}
-use mathlib.Core.Path.{◌≡◌, refl, sym, ap, ◌∙◌}
-use mathlib.Core.Bool.{Bool, true, false}
-use mathlib.Core.Logic.{inl, inr, ◌↔◌}
+use mathlib.Core.Path.{◌≡◌, refl, ap, ◌∙◌}
+use mathlib.Core.Logic.{inl, inr}
 use native.Mathlib.Nat.{mul_assoc, one-mul}
 use native.Mathlib.Omega.{arith}
 use borrow.Author.Tests.{lt-ltb, le-ltb}
-use Rattle.refusals.specs.Rules.{under, at_most}
+use Rattle.refusals.specs.Rules.{under}
 use Rattle.refusals.specs.declared.Refusal.TheVariants.{Range}
 use Rattle.refusals.proofs.Rules.{by_cases, holds-true, fails-false}
 use Rattle.bill_table.specs.Table.{no_word, word}

@@ -1,5 +1,5 @@
 -- The bill table (02, Q-1, and 003): "its 120-byte answer, 24 words of five bytes".
-use Rattle.std.specs.Prelude.{ℕ, suc, zero, ◌+◌, ◌-◌, ◌*◌, Bool, true, false, cond, List, [], ◌∷◌, ◌++◌, ltb, length, get_or, drop, replicate}
+use Rattle.std.specs.Prelude.{ℕ, suc, zero, ◌-◌, ◌*◌, Bool, true, false, cond, List, [], ◌∷◌, ◌++◌, ltb, length, get_or, drop, replicate}
 use Rattle.refusals.specs.Rules.{Condition, at_most}
 use Rattle.bill_table.specs.declared.Letters.{Letters}
 use Rattle.bill_table.specs.declared.Word.{Word}

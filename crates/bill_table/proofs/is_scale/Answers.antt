@@ -1,5 +1,4 @@
 -- `bill_table::is_scale` meets its contract: each return is at the first test that holds. Assumes nothing.
-use borrow.Author.Rules.{rules}
 use Rattle.bill_table.proofs.is_scale.Goals as goal
 
 pub returns-then-byte_within : goal.returns-then-byte_within

@@ -1,39 +1,37 @@
 -- `bill_table::is_usable` meets its contract: each return is at the first test that fails. Assumes nothing.
-use borrow.Author.Tests.{not-true, not-false}
-use borrow.Author.Rules.{rules}
 use Rattle.bill_table.proofs.is_usable.Goals as goal
 
 pub returns-then-not-byte_within : goal.returns-then-not-byte_within
-returns-then-not-byte_within c = simp (← c.byte_within.ensures, not-true c.byte_within.result c.if-not-byte_within.true)
+returns-then-not-byte_within c = simp (← c.byte_within.ensures, c.if-not-byte_within.true)
 
 pub returns-then-not-byte_within-2 : goal.returns-then-not-byte_within-2
 returns-then-not-byte_within-2 c =
     simp (
       ← c.byte_within.ensures,
-      not-false c.byte_within.result c.if-not-byte_within.false,
+      c.if-not-byte_within.false,
       ← c.byte_within-2.ensures,
-      not-true c.byte_within-2.result c.if-not-byte_within-2.true,
+      c.if-not-byte_within-2.true,
     )
 
 pub returns-then-not-byte_within-3 : goal.returns-then-not-byte_within-3
 returns-then-not-byte_within-3 c =
     simp (
       ← c.byte_within.ensures,
-      not-false c.byte_within.result c.if-not-byte_within.false,
+      c.if-not-byte_within.false,
       ← c.byte_within-2.ensures,
-      not-false c.byte_within-2.result c.if-not-byte_within-2.false,
+      c.if-not-byte_within-2.false,
       ← c.byte_within-3.ensures,
-      not-true c.byte_within-3.result c.if-not-byte_within-3.true,
+      c.if-not-byte_within-3.true,
     )
 
 pub returns : goal.returns
 returns c =
     simp (
       ← c.byte_within.ensures,
-      not-false c.byte_within.result c.if-not-byte_within.false,
+      c.if-not-byte_within.false,
       ← c.byte_within-2.ensures,
-      not-false c.byte_within-2.result c.if-not-byte_within-2.false,
+      c.if-not-byte_within-2.false,
       ← c.byte_within-3.ensures,
-      not-false c.byte_within-3.result c.if-not-byte_within-3.false,
+      c.if-not-byte_within-3.false,
       ← c.is_scale.ensures,
     )

@@ -1,10 +1,9 @@
 -- `bill_table::lay` meets its contract: the room's first i bytes, and the bytes left laid from there on, are all the bytes laid from the start. Assumes nothing.
 use mathlib.Core.Path.{◌≡◌, refl, ◌∙◌}
-use mathlib.Core.List.{◌++◌}
-use Prim.Native.Nat.{◌-◌, ◌≤◌, ◌<◌}
+use Prim.Native.Nat.{◌<◌}
 use native.Mathlib.Numerals.{add-one}
 use native.Mathlib.Omega.{arith}
-use lib.ListN.{length, take, drop, length-set, take-append-drop}
+use lib.ListN.{length, length-set, take-append-drop}
 use lib.Seq.{drop-cons, drop-length}
 use Rattle.refusals.specs.Put.{over}
 use Rattle.refusals.proofs.Writing.{over-one}

@@ -1,7 +1,6 @@
 -- `bill_table::put` meets its contract. Assumes nothing.
 use mathlib.Core.Path.{refl}
 use Rattle.refusals.proofs.Writing.{writing-refused, writing-laid}
-use borrow.Author.Rules.{rules}
 use Rattle.bill_table.proofs.put.Goals as goal
 
 pub returns-then-room-n : goal.returns-then-room-n

@@ -1,11 +1,6 @@
 -- `bill_table::read` meets its contract: the body laid over zeros is the body filled up. Assumes nothing.
-use mathlib.Core.Path.{◌≡◌, ap}
-use mathlib.Core.Bool.{true}
-use mathlib.Core.List.{List}
-use Prim.Native.Nat.{ℕ}
-use borrow.Author.Rules.{rules}
 use borrow.Author.Tests.{lt-leb, le-leb}
-use Rattle.bill_table.specs.Table.{kept, read_table}
+use Rattle.bill_table.specs.Table.{read_table}
 use Rattle.bill_table.proofs.Filling.{filled-over}
 use Rattle.bill_table.proofs.read.Goals as goal
 

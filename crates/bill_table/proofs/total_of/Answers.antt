@@ -1,7 +1,5 @@
 -- `bill_table::total_of` meets its contract. Assumes nothing.
 use mathlib.Core.Path.{sym, ◌∙◌}
-use native.Mathlib.Omega.{arith}
-use borrow.Author.Rules.{rules}
 use borrow.Author.Tests.{lt-ltb, le-ltb}
 use Rattle.bill_table.specs.Worth.{is_usable, total_of}
 use Rattle.bill_table.proofs.total_of.Goals as goal
@@ -12,7 +10,7 @@ returns-then-count-gt-MOST_BILLS c = simp (lt-ltb _ _ c.if-count-gt-MOST_BILLS.t
 
 pub worth_of-requires : goal.worth_of-requires
 worth_of-requires c =
-    ((is_usable c.args.word).tells.shown (sym c.is_usable.ensures ∙ c.if-is_usable.true), c.if-count-gt-MOST_BILLS.false)
+    record { fact = (is_usable c.args.word).tells.shown (sym c.is_usable.ensures ∙ c.if-is_usable.true); count_bound = c.if-count-gt-MOST_BILLS.false }
 
 pub returns-then-is_usable : goal.returns-then-is_usable
 unfolding total_of

@@ -3,7 +3,6 @@ use borrow.Author.Tests.{lt-ltb, le-ltb}
 use lib.Seq.{get_or-drop}
 use native.Mathlib.Nat.{add-zero}
 use Rattle.bill_table.specs.Table.{word_at}
-use borrow.Author.Rules.{rules}
 use Rattle.bill_table.proofs.word_at.Goals as goal
 
 pub returns-then-bill-ge-TYPES : goal.returns-then-bill-ge-TYPES

@@ -1,28 +1,27 @@
 -- `bill_table::worth_of` meets its contract, and no product is too large. Assumes nothing.
-use mathlib.Core.Path.{◌≡◌, ap}
 use Prim.Native.Nat.{◌*◌, ◌^◌, ◌≤◌, ◌<◌}
 use native.Mathlib.Omega.{arith}
 use borrow.Author.Rules.{rules}
 use borrow.Author.Tests.{lt-ltb, le-ltb}
-use Rattle.bill_table.specs.Worth.{worth, value}
+use Rattle.bill_table.specs.Worth.{worth}
 use Rattle.bill_table.proofs.Amounts.{zeros-few, one-most, all_most}
 use Rattle.bill_table.proofs.worth_of.Goals as goal
 
 pub ten_to-requires : goal.ten_to-requires
-ten_to-requires c = zeros-few _ c.requires.0.1.1.1 c.if-word-lt-PLACES.true
+ten_to-requires c = zeros-few _ c.requires.fact.1.1.1 c.if-word-lt-PLACES.true
 
 pub overflow_mul-one : goal.overflow_mul-one
 overflow_mul-one c =
     let w = c.args.word in
     let h : w.first < 256 = search rules in
-    record { fits = rw c.ten_to.ensures (omega (arith, one-most w.first w.last h (zeros-few _ c.requires.0.1.1.1 c.if-word-lt-PLACES.true))) }
+    record { fits = rw c.ten_to.ensures (omega (arith, one-most w.first w.last h (zeros-few _ c.requires.fact.1.1.1 c.if-word-lt-PLACES.true))) }
 
 pub overflow_mul-whole : goal.overflow_mul-whole
 overflow_mul-whole c =
     let w = c.args.word in
     let h : w.first < 256 = search rules in
-    let one = one-most w.first w.last h (zeros-few _ c.requires.0.1.1.1 c.if-word-lt-PLACES.true) in
-    record { fits = rw c.ten_to.ensures (omega (arith, all_most c.args.count (w.first * 10 ^ w.last) c.requires.1 one)) }
+    let one = one-most w.first w.last h (zeros-few _ c.requires.fact.1.1.1 c.if-word-lt-PLACES.true) in
+    record { fits = rw c.ten_to.ensures (omega (arith, all_most c.args.count (w.first * 10 ^ w.last) c.requires.count_bound one)) }
 
 pub returns-then-word-lt-PLACES : goal.returns-then-word-lt-PLACES
 unfolding worth
@@ -32,7 +31,7 @@ pub overflow_mul-whole-2 : goal.overflow_mul-whole-2
 overflow_mul-whole-2 c =
     let w = c.args.word in
     let h : w.first ≤ 255_000_000_000 = search rules in
-    record { fits = omega (arith, all_most c.args.count w.first c.requires.1 h) }
+    record { fits = omega (arith, all_most c.args.count w.first c.requires.count_bound h) }
 
 pub returns : goal.returns
 unfolding worth

@@ -3,7 +3,6 @@ use mathlib.Core.Path.{refl, sym, ap, ◌∙◌}
 use Prim.Native.Nat.{ℕ, ◌+◌}
 use Rattle.ccnet_wide.proofs.Frames.{good-long, good-lead-most, good-part}
 use native.Mathlib.Omega.{arith}
-use borrow.Author.Rules.{rules}
 use Rattle.ccnet_wide.proofs.data_of.Goals as goal
 
 pub overflow_add-start : goal.overflow_add-start

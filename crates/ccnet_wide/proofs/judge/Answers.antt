@@ -3,7 +3,6 @@ use mathlib.Core.Path.{sym, ap, ap₂, ◌∙◌}
 use Rattle.ccnet_frame.proofs.Frames.{sized-by}
 use Rattle.ccnet_wide.specs.Wide.{is_sized}
 use Rattle.ccnet_wide.proofs.Frames.{with_lead, judged-wide}
-use borrow.Author.Rules.{rules}
 use Rattle.ccnet_wide.proofs.judge.Goals as goal
 
 pub returns-in-Good : goal.returns-in-Good

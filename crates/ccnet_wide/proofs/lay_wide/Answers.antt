@@ -1,6 +1,5 @@
 -- `ccnet_wide::lay_wide` meets its contract: the head of each form is its opening, what stands before the true length, and that length. Assumes nothing.
 use native.Mathlib.Omega.{arith}
-use borrow.Author.Rules.{rules}
 use Rattle.ccnet_wide.proofs.lay_wide.Goals as goal
 
 pub lay-requires : goal.lay-requires

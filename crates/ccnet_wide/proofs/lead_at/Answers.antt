@@ -1,5 +1,4 @@
 -- `ccnet_wide::lead_at` meets its contract: by the form, the bytes at their places. Assumes nothing.
-use borrow.Author.Rules.{rules}
 use Rattle.ccnet_wide.proofs.lead_at.Goals as goal
 
 pub returns-in-AfterCode : goal.returns-in-AfterCode

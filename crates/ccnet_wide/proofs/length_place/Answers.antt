@@ -1,5 +1,4 @@
 -- `ccnet_wide::length_place` meets its contract: by the form. Assumes nothing.
-use borrow.Author.Rules.{rules}
 use Rattle.ccnet_wide.proofs.length_place.Goals as goal
 
 pub returns-in-AfterCode : goal.returns-in-AfterCode

@@ -5,14 +5,13 @@ use lib.ListN.{length}
 use Rattle.ccnet_wide.proofs.Frames.{lead-most}
 use Rattle.ccnet_wide.proofs.Planned.{wide-refused, wide-fit}
 use native.Mathlib.Omega.{arith}
-use borrow.Author.Rules.{rules}
 use Rattle.ccnet_wide.proofs.write.Goals as goal
 
 pub overflow_add-length : goal.overflow_add-length
 overflow_add-length c = omega (arith, c.lead_size.ensures, lead-most c.args.lead)
 
 pub overflow_add-length-2 : goal.overflow_add-length-2
-overflow_add-length-2 c = omega (arith, c.lead_size.ensures, lead-most c.args.lead, c.before.before.before.well-formed.1.1.0.1)
+overflow_add-length-2 c = omega (arith, c.lead_size.ensures, lead-most c.args.lead, c.before.before.before.well_formed.1.1.0.1)
 
 pub overflow_cast-n : goal.overflow_cast-n
 overflow_cast-n c =

@@ -9,7 +9,7 @@ use native.Mathlib.Omega.{arith}
 use Rattle.grading_step.proofs.ticked.Goals as goal
 
 pub overflow_add-records : goal.overflow_add-records
-overflow_add-records c = record { fits = omega (arith, c.requires.1) }
+overflow_add-records c = record { fits = omega (arith, c.requires.records_bound) }
 
 pub heard-entry-requires : goal.heard-entry-requires
 heard-entry-requires c = λ e. tick-heard _ _ _ _ c.step_tick-step.ensures

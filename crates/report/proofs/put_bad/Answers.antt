@@ -8,4 +8,4 @@ pub returns : goal.returns
 returns c =
     let a = c.put_field-a.ensures in
     let r = c.put_line.ensures in
-    simp (← c.number.ensures) (line-added _ _ a.0 r.0, omega (arith, a.1, r.1))
+    simp (← c.number.ensures) (record { adds = line-added _ _ a.adds r.adds; upper_bound = omega (arith, a.upper_bound, r.upper_bound) })

@@ -10,4 +10,4 @@ returns c =
     let l = c.put_sums-b.ensures in
     let x = c.put_error-c.ensures in
     let y = c.put_error.ensures in
-    (first-added _ _ u.0 (first-added _ _ l.0 (first-added _ _ x.0 (one-added _ y.0))), omega (arith, u.1, l.1, x.1, y.1))
+    record { adds = first-added _ _ u.adds (first-added _ _ l.adds (first-added _ _ x.adds (one-added _ y.adds))); upper_bound = omega (arith, u.upper_bound, l.upper_bound, x.upper_bound, y.upper_bound) }

@@ -9,20 +9,17 @@ use Rattle.report.proofs.put_count.Goals as goal
 
 pub put_field-b-requires : goal.put_field-b-requires
 put_field-b-requires c =
-    let a = c.put_field-a.ensures.0 in
-    omega (arith, a.ends, a.size, two c.args.y c.requires.1, c.requires.0, length-append (bytes_of "type ") (decimal c.args.y))
+    let a = c.put_field-a.ensures.adds in
+    omega (arith, a.ends, a.size, two c.args.y c.requires.y_bound, c.requires.at_in_bounds, length-append (bytes_of "type ") (decimal c.args.y))
 
 pub put-requires : goal.put-requires
 put-requires c =
-    let a = c.put_field-a.ensures.0 in
+    let a = c.put_field-a.ensures.adds in
     let d = c.put_field-b.ensures in
-    omega (arith, a.ends, a.size, d.0.size, d.1, two c.args.y c.requires.1, c.requires.0, length-append (bytes_of "type ") (decimal c.args.y))
+    omega (arith, a.ends, a.size, d.adds.size, d.upper_bound, two c.args.y c.requires.y_bound, c.requires.at_in_bounds, length-append (bytes_of "type ") (decimal c.args.y))
 
 pub returns : goal.returns
 returns c =
-    let a = c.put_field-a.ensures.0 in
+    let a = c.put_field-a.ensures.adds in
     let d = c.put_field-b.ensures in
-    let e = c.put.ensures in (
-      count-added c.args.y c.args.n a d.0 e,
-      omega (arith, a.ends, d.1, e.ends, two c.args.y c.requires.1, length-append (bytes_of "type ") (decimal c.args.y)),
-    )
+    let e = c.put.ensures in record { adds = count-added c.args.y c.args.n a d.adds e; upper_bound = omega (arith, a.ends, d.upper_bound, e.ends, two c.args.y c.requires.y_bound, length-append (bytes_of "type ") (decimal c.args.y)) }

@@ -10,4 +10,4 @@ returns c =
     let d = c.put_line-b.ensures in
     let t = c.put_types-c.ensures in
     let r = c.put_line.ensures in
-    (lines-added _ _ cs.0 (first-added _ _ d.0 (lines-added _ _ t.0 (one-added _ r.0))), omega (arith, cs.1, d.1, t.1, r.1))
+    record { adds = lines-added _ _ cs.adds (first-added _ _ d.adds (lines-added _ _ t.adds (one-added _ r.adds))); upper_bound = omega (arith, cs.upper_bound, d.upper_bound, t.upper_bound, r.upper_bound) }

@@ -10,4 +10,4 @@ returns-in-Good c = rw c.in-Good.is c.put_good.ensures
 
 pub returns-in-Bad : goal.returns-in-Bad
 unfolding report_text
-returns-in-Bad c = let e = c.put_bad.ensures in rw c.in-Bad.is (one-added _ e.0, e.1)
+returns-in-Bad c = let e = c.put_bad.ensures in rw c.in-Bad.is (record { adds = one-added _ e.adds; upper_bound = e.upper_bound })

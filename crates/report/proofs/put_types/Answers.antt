@@ -16,7 +16,7 @@ loop-y-init c = let args = c.args in (search rules, search rules, search rules, 
 pub put_type-end-requires : goal.put_type-end-requires
 put_type-end-requires c =
     let turn = c.loop-y in
-    (omega (arith, turn.invariant.2, turn.invariant.3.size, c.requires), search rules)
+    record { at_in_bounds = omega (arith, turn.invariant.2, turn.invariant.3.size, c.requires); y_bound = search rules }
 
 pub loop-y-preserved : goal.loop-y-preserved
 loop-y-preserved c =
@@ -25,9 +25,9 @@ loop-y-preserved c =
     let args = c.args in (
       search rules,
       turn.invariant.1,
-      omega (arith, turn.invariant.2, w.1),
+      omega (arith, turn.invariant.2, w.upper_bound),
       types-next args.table.now args.t1 turn.y _ (omega (arith, turn.invariant.1, c.loop-y-test.true)) turn.invariant.3
-          (rw c.word_at-word.ensures at w.0),
+          (rw c.word_at-word.ensures at w.adds),
     )
 
 pub shape_of-text : goal.shape_of-text
@@ -37,4 +37,4 @@ pub returns : goal.returns
 returns c =
     let end = c.loop-y in
     let args = c.args in
-    (types-all args.table.now args.t1 end.y (omega (arith, end.invariant.1, c.loop-y-test.false)) end.invariant.3, omega (arith, end.invariant.2))
+    record { adds = types-all args.table.now args.t1 end.y (omega (arith, end.invariant.1, c.loop-y-test.false)) end.invariant.3; upper_bound = omega (arith, end.invariant.2) }

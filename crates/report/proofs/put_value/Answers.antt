@@ -13,13 +13,13 @@ use Rattle.report.proofs.put_value.Goals as goal
 pub put_digits-b-requires : goal.put_digits-b-requires
 put_digits-b-requires c =
     let a = c.put-a.ensures in
-    omega (arith, a.ends, a.size, eighteen c.args.value.whole c.requires.1.0, c.requires.0)
+    omega (arith, a.ends, a.size, eighteen c.args.value.whole c.requires.whole_bound.0, c.requires.at_in_bounds)
 
 pub put-c-requires : goal.put-c-requires
 put-c-requires c =
     let a = c.put-a.ensures in
     let b = c.put_digits-b.ensures in
-    omega (arith, a.ends, a.size, b.ends, b.size, eighteen c.args.value.whole c.requires.1.0, c.requires.0)
+    omega (arith, a.ends, a.size, b.ends, b.size, eighteen c.args.value.whole c.requires.whole_bound.0, c.requires.at_in_bounds)
 
 pub put_digits-d-requires : goal.put_digits-d-requires
 put_digits-d-requires c =
@@ -34,9 +34,9 @@ put_digits-d-requires c =
       b.size,
       d.ends,
       d.size,
-      eighteen c.args.value.whole c.requires.1.0,
-      single c.args.value.decimals c.requires.1.1,
-      c.requires.0,
+      eighteen c.args.value.whole c.requires.whole_bound.0,
+      single c.args.value.decimals c.requires.whole_bound.1,
+      c.requires.at_in_bounds,
     )
 
 pub put-requires : goal.put-requires
@@ -55,9 +55,9 @@ put-requires c =
       d.size,
       e.ends,
       e.size,
-      eighteen c.args.value.whole c.requires.1.0,
-      single c.args.value.decimals c.requires.1.1,
-      c.requires.0,
+      eighteen c.args.value.whole c.requires.whole_bound.0,
+      single c.args.value.decimals c.requires.whole_bound.1,
+      c.requires.at_in_bounds,
     )
 
 pub returns : goal.returns
@@ -67,17 +67,14 @@ returns c =
     let b = c.put_digits-b.ensures in
     let d = c.put-c.ensures in
     let e = c.put_digits-d.ensures in
-    let f = c.put.ensures in (
-      line-added (bytes_of "value ") (decimal v.whole ++ (spaced v.letters ++ decimal v.decimals)) a
-          (line-added (decimal v.whole) (spaced v.letters ++ decimal v.decimals) b (line-added (spaced v.letters) (decimal v.decimals) d (adds_then e f))),
-      omega (
+    let f = c.put.ensures in record { adds = line-added (bytes_of "value ") (decimal v.whole ++ (spaced v.letters ++ decimal v.decimals)) a
+          (line-added (decimal v.whole) (spaced v.letters ++ decimal v.decimals) b (line-added (spaced v.letters) (decimal v.decimals) d (adds_then e f))); upper_bound = omega (
         arith,
         a.ends,
         b.ends,
         d.ends,
         e.ends,
         f.ends,
-        eighteen c.args.value.whole c.requires.1.0,
-        single c.args.value.decimals c.requires.1.1,
-      ),
-    )
+        eighteen c.args.value.whole c.requires.whole_bound.0,
+        single c.args.value.decimals c.requires.whole_bound.1,
+      ) }

@@ -12,17 +12,17 @@ pub put_value-requires : goal.put_value-requires
 put_value-requires c =
     let w = c.args.word in
     let small : w.first < 256 = search rules in
-    (c.requires, total-fits w c.args.n _ small (sym c.total_of.ensures ∙ c.in-Sum.is))
+    record { at_in_bounds = c.requires; whole_bound = total-fits w c.args.n _ small (sym c.total_of.ensures ∙ c.in-Sum.is) }
 
 pub returns-in-NoValue : goal.returns-in-NoValue
 returns-in-NoValue c =
-    (nothing-added c.args.text.now c.args.at (ap value_line (sym c.total_of.ensures ∙ c.in-NoValue.is)), search rules)
+    record { adds = nothing-added c.args.text.now c.args.at (ap value_line (sym c.total_of.ensures ∙ c.in-NoValue.is)); upper_bound = search rules }
 
 pub returns-in-Sum : goal.returns-in-Sum
 returns-in-Sum c =
     let e = c.put_value.ensures in
-    rw (sym c.total_of.ensures ∙ c.in-Sum.is) (one-added _ e.0, e.1)
+    rw (sym c.total_of.ensures ∙ c.in-Sum.is) (record { adds = one-added _ e.adds; upper_bound = e.upper_bound })
 
 pub returns-in-Refused : goal.returns-in-Refused
 returns-in-Refused c =
-    (nothing-added c.args.text.now c.args.at (ap value_line (sym c.total_of.ensures ∙ c.in-Refused.is)), search rules)
+    record { adds = nothing-added c.args.text.now c.args.at (ap value_line (sym c.total_of.ensures ∙ c.in-Refused.is)); upper_bound = search rules }

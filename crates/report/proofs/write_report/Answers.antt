@@ -6,4 +6,4 @@ use borrow.Author.Rules.{rules}
 use Rattle.report.proofs.write_report.Goals as goal
 
 pub returns : goal.returns
-returns c = c.lay.ensures ∙ ap (λ l. writing l c.args.room.now) (text-laid c.put_report-n.ensures.0)
+returns c = c.lay.ensures ∙ ap (λ l. writing l c.args.room.now) (text-laid c.put_report-n.ensures.adds)

@@ -10,4 +10,4 @@ returns c =
     let a = c.put-a.ensures in
     let b = c.put_name-b.ensures in
     let e = c.put.ensures in
-    (line-added _ _ a (adds_then b.0 e), omega (arith, a.ends, b.1, e.ends))
+    record { adds = line-added _ _ a (adds_then b.adds e); upper_bound = omega (arith, a.ends, b.upper_bound, e.ends) }

@@ -4,4 +4,4 @@ use borrow.Author.Rules.{rules}
 use Rattle.report_lines.proofs.put_field.Goals as goal
 
 pub returns : goal.returns
-returns c = (adds_then c.put-end.ensures c.put_number.ensures.0, search rules)
+returns c = record { adds = adds_then c.put-end.ensures c.put_number.ensures.adds; upper_bound = search rules }

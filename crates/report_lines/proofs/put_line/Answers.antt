@@ -8,4 +8,4 @@ pub returns : goal.returns
 returns c =
     let a = c.put_field-a.ensures in
     let e = c.put.ensures in
-    (adds_then a.0 e, omega (arith, a.1, e.ends))
+    record { adds = adds_then a.adds e; upper_bound = omega (arith, a.upper_bound, e.ends) }

@@ -10,4 +10,4 @@ put_digits-requires c = omega (arith, ten c.args.n c.ranges.n.fits, c.requires)
 pub returns : goal.returns
 returns c =
     let a = c.put_digits.ensures in
-    (a, omega (arith, a.ends, ten c.args.n c.ranges.n.fits))
+    record { adds = a; upper_bound = omega (arith, a.ends, ten c.args.n c.ranges.n.fits) }

@@ -9,4 +9,4 @@ returns c =
     let p = c.put_paid-a.ensures in
     let u = c.put_unpaid-b.ensures in
     let e = c.put.ensures in
-    (adds_then (adds_then p.0 u.0) e, omega (arith, p.1, u.1, e.ends))
+    record { adds = adds_then (adds_then p.adds u.adds) e; upper_bound = omega (arith, p.upper_bound, u.upper_bound, e.ends) }

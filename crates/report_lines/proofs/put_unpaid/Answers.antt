@@ -12,4 +12,4 @@ returns c =
     let e = c.put_field-c.ensures in
     let d = c.put_field-b.ensures in
     let a = c.put_field-a.ensures in
-    (adds_then a.0 (adds_then d.0 (adds_then e.0 f.0)), omega (arith, a.1, d.1, e.1, f.1))
+    record { adds = adds_then a.adds (adds_then d.adds (adds_then e.adds f.adds)); upper_bound = omega (arith, a.upper_bound, d.upper_bound, e.upper_bound, f.upper_bound) }

@@ -3,7 +3,7 @@ use borrow.Author.Rules.{rules}
 use Rattle.exchange.proofs.line.settled.Goals as goal
 
 pub returns-then-pays : goal.returns-then-pays
-returns-then-pays c = (simp (c.if-pays.true, c.doubted.ensures), simp (c.if-pays.true, c.doubted.ensures))
+returns-then-pays c = record { value = simp (c.if-pays.true, c.doubted.ensures); value_2 = simp (c.if-pays.true, c.doubted.ensures) }
 
 pub returns : goal.returns
-returns c = (simp c.if-pays.false, simp c.if-pays.false)
+returns c = record { value = simp c.if-pays.false; value_2 = simp c.if-pays.false }

@@ -10,7 +10,7 @@ returns-then-piece-eq0 c = empty-fed c.args.replay c.args.piece.now c.if-piece-e
 
 pub within-requires : goal.within-requires
 within-requires c =
-    (c.requires, (unbroken c.args.replay.reader.place c.in_default.keys2, omega (arith, c.if-piece-eq0.false)))
+    record { counted = c.requires; unbroken = unbroken c.args.replay.reader.place c.in_default.keys2; piece_nonzero = omega (arith, c.if-piece-eq0.false) }
 
 pub returns-in-Broken : goal.returns-in-Broken
 returns-in-Broken c =

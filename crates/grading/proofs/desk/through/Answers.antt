@@ -20,13 +20,13 @@ use Rattle.grading.proofs.desk.through.Goals as goal
 pub loop-i-init : goal.loop-i-init
 loop-i-init c = (
   omega arith,
-  omega (arith, c.requires.1.1.1),
-  omega (arith, c.requires.0.declined_most),
-  omega (arith, c.requires.0.records_most),
+  omega (arith, c.requires.piece_bound),
+  omega (arith, c.requires.counted.declined_most),
+  omega (arith, c.requires.counted.records_most),
   c.glances_in-all.ensures,
   eq-le c.glances_in-glances.ensures,
-  λ e. begun-inside c.args.replay.reader.place c.requires.1.0 (sym c.is_begun-cut.ensures ∙ e),
-  rw c.is_begun-cut.ensures (begins c.args.replay c.args.piece.now c.requires.1.1.0),
+  λ e. begun-inside c.args.replay.reader.place c.requires.unbroken (sym c.is_begun-cut.ensures ∙ e),
+  rw c.is_begun-cut.ensures (begins c.args.replay c.args.piece.now c.requires.piece_nonzero),
 )
 
 pub record_in-found-requires : goal.record_in-found-requires
@@ -44,7 +44,7 @@ overflow_add-end c = omega (arith, c.loop-i.invariant.1)
 pub rejoined-requires : goal.rejoined-requires
 rejoined-requires c =
     let inv = c.loop-i.invariant in
-    (omega (arith, inv.0, inv.1, inv.2, inv.3), (omega (arith, inv.0, inv.1, inv.3), omega (arith, inv.1)))
+    record { declined_bound = omega (arith, inv.0, inv.1, inv.2, inv.3); records_bound = omega (arith, inv.0, inv.1, inv.3); fed_bound = omega (arith, inv.1) }
 
 pub returns-in-Cut : goal.returns-in-Cut
 returns-in-Cut c =
@@ -72,7 +72,7 @@ returns-in_default c =
 pub step-moved-requires : goal.step-moved-requires
 step-moved-requires c =
     let inv = c.loop-i.invariant in
-    (omega (arith, inv.0, inv.1, inv.2, inv.3), omega (arith, inv.0, inv.1, inv.3))
+    record { declined_bound = omega (arith, inv.0, inv.1, inv.2, inv.3); records_bound = omega (arith, inv.0, inv.1, inv.3) }
 
 pub overflow_add-i : goal.overflow_add-i
 overflow_add-i c =
@@ -131,7 +131,7 @@ overflow_add-end-2 c = omega (arith, c.loop-i.invariant.1)
 pub rejoined-requires-2 : goal.rejoined-requires-2
 rejoined-requires-2 c =
     let inv = c.loop-i.invariant in
-    (omega (arith, inv.0, inv.1, inv.2, inv.3), (omega (arith, inv.0, inv.1, inv.3), omega (arith, inv.1)))
+    record { declined_bound = omega (arith, inv.0, inv.1, inv.2, inv.3); records_bound = omega (arith, inv.0, inv.1, inv.3); fed_bound = omega (arith, inv.1) }
 
 pub returns : goal.returns
 returns c =

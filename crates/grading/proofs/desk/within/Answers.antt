@@ -7,7 +7,7 @@ use Rattle.grading.proofs.desk.within.Goals as goal
 
 pub returns-then-left-eq0 : goal.returns-then-left-eq0
 returns-then-left-eq0 c =
-    c.past.ensures ∙ all_past c.args.replay c.args.piece.now (omega (arith, c.if-left-eq0.true, c.requires.0.fed_most)) c.requires.1.1
+    c.past.ensures ∙ all_past c.args.replay c.args.piece.now (omega (arith, c.if-left-eq0.true, c.requires.counted.fed_most)) c.requires.piece_nonzero
 
 pub slice_bounds-through-end : goal.slice_bounds-through-end
 slice_bounds-through-end c = omega (arith, c.least-n.ensures.first)
@@ -16,7 +16,7 @@ pub through-after-requires : goal.through-after-requires
 through-after-requires c =
     let l = c.least-n.ensures in
     let n = part_length c.args.piece.now _ l.first in
-    (c.requires.0, (c.requires.1.0, (omega (arith, n, some-part l c.requires.1.1 (omega (arith, c.if-left-eq0.false))), omega (arith, n, l.second))))
+    record { counted = c.requires.counted; unbroken = c.requires.unbroken; piece_nonzero = omega (arith, n, some-part l c.requires.piece_nonzero (omega (arith, c.if-left-eq0.false))); piece_bound = omega (arith, n, l.second) }
 
 pub returns-then-n-piece : goal.returns-then-n-piece
 returns-then-n-piece c = whole_part c.args.replay c.args.piece.now _ c.if-n-piece.true c.through-after.ensures
@@ -26,4 +26,4 @@ returns c =
     let l = c.least-n.ensures in
     let h = c.if-n-piece.false in
     past-part c.args.replay c.args.piece.now c.least-n.result c.through-after.ensures c.past-2.ensures
-    (omega (arith, l.other (omega (arith, l.first, h)), c.requires.0.fed_most)) (omega (arith, l.first, h))
+    (omega (arith, l.other (omega (arith, l.first, h)), c.requires.counted.fed_most)) (omega (arith, l.first, h))

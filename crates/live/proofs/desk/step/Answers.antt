@@ -5,7 +5,7 @@ use borrow.Author.Rules.{rules}
 use Rattle.live.proofs.desk.step.Goals as goal
 
 pub overflow_add-result : goal.overflow_add-result
-overflow_add-result c = record { fits = omega (arith, c.requires.1) }
+overflow_add-result c = record { fits = omega (arith, c.requires.records_bound) }
 
 pub returns : goal.returns
 returns c =

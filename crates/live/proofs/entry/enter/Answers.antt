@@ -8,7 +8,8 @@ pub step-lived-requires : goal.step-lived-requires
 step-lived-requires c =
     let args = c.args in
     let note = c.note-entry in
-    can-grow args.written args.desk.records args.desk.declined args.x args.out.now note.result _ _ note.ensures c.in-Bytes.is
+    let g = can-grow args.written args.desk.records args.desk.declined args.x args.out.now note.result _ _ note.ensures c.in-Bytes.is in
+    record { declined_bound = g.0; records_bound = g.1 }
 
 pub returns-in-Bytes : goal.returns-in-Bytes
 returns-in-Bytes c =

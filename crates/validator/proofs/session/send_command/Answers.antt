@@ -4,7 +4,7 @@ use borrow.Author.Rules.{rules}
 use Rattle.validator.proofs.session.send_command.Goals as goal
 
 pub returns-in-Bytes : goal.returns-in-Bytes
-returns-in-Bytes c = command-sent _ _ _ _ _ c.requires.0 c.requires.1 c.write_command.ensures _ c.in-Bytes.is
+returns-in-Bytes c = command-sent _ _ _ _ _ c.requires.in_bounds c.requires.given_len_bound c.write_command.ensures _ c.in-Bytes.is
 
 pub returns-in-Refused : goal.returns-in-Refused
-returns-in-Refused c = absurd (command-not-refused _ _ _ _ _ c.requires.0 c.requires.1 c.write_command.ensures _ c.in-Refused.is)
+returns-in-Refused c = absurd (command-not-refused _ _ _ _ _ c.requires.in_bounds c.requires.given_len_bound c.write_command.ensures _ c.in-Refused.is)

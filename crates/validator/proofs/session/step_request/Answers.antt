@@ -1,7 +1,6 @@
 -- `validator::session::step_request` meets its contract. Assumes nothing.
-use mathlib.Core.Path.{◌≡◌, sym, ap, ◌∙◌}
-use mathlib.Core.Bool.{false, not}
-use borrow.Author.Tests.{lt-ltb, le-ltb, le-leb, lt-leb, not-false}
+use mathlib.Core.Path.{sym, ap, ◌∙◌}
+use borrow.Author.Tests.{lt-ltb, le-ltb, le-leb, lt-leb}
 use Rattle.validator_rules.specs.Session.{Sent, request_step, request_refusals}
 use Rattle.validator_rules.proofs.Sending.{command-size}
 use native.Mathlib.Omega.{arith}
@@ -29,8 +28,8 @@ unfolding request_step request_refusals
 returns-then-line-ge-COMMANDS c = simp (le-ltb _ _ c.if-room-lt-ROOM.false, ← c.is_command.ensures, c.if-not-is_command.false, ← c.is_open.ensures, c.if-is_open.false, le-ltb _ _ c.if-line-gt0.false, le-leb _ _ c.if-line-ge-COMMANDS.true, c.not_done-then-line-ge-COMMANDS.ensures)
 
 pub send_command-n-requires : goal.send_command-n-requires
-send_command-n-requires c = let t : not c.is_command.result ≡ false = c.if-not-is_command.false in
-    (omega (arith, c.if-room-lt-ROOM.false), command-size _ _ (sym c.is_command.ensures ∙ not-false _ t))
+send_command-n-requires c =
+    record { in_bounds = omega (arith, c.if-room-lt-ROOM.false); given_len_bound = command-size _ _ (sym c.is_command.ensures ∙ c.if-not-is_command.false) }
 
 pub returns : goal.returns
 unfolding request_step request_refusals

@@ -15,7 +15,7 @@ use Rattle.xor_frame.proofs.Check.{check-next, check-end}
 use Rattle.xor_frame.proofs.frame.lay.Given as goal
 
 -- what is left to lay after i bytes
-pub left : List ℕ → ℕ → List ℕ
+unfoldable pub left : List ℕ → ℕ → List ℕ
 left s i = drop i s ++ (check s ∷ [])
 
 abbrev pub invariant-loop-i : goal.invariant-loop-i
