@@ -53,7 +53,7 @@ use Rattle.dispenser_rules.proofs.Shown.{lawful, Says, says, answers_by}
 use Rattle.dispenser_rules.proofs.Same.{session}
 use Rattle.dispenser_rules.proofs.Demand3.{fresh_kept}
 use Rattle.dispenser_rules.proofs.Ring.{Holds, fresh_holds, push, settle, held-list, held_at}
-use Rattle.dispenser_rules.proofs.Closing.{closes, put_by, Closed, byte-step-closed, tick-step-closed}
+use Rattle.dispenser_rules.proofs.Closings.{closes, put_by, Closed, byte-step-closed, tick-step-closed}
 
 -- ---- lists of commands
 

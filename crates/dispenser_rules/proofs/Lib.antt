@@ -3,10 +3,10 @@ pub mod Ranges
 pub mod Shown
 pub mod Same
 pub mod Demand3
-pub mod LastErrors
+pub mod ErrorsTold
 pub mod Tied
 pub mod Steps
 pub mod Paying
 pub mod Ring
-pub mod Closing
+pub mod Closings
 pub mod Kept

@@ -16,7 +16,7 @@ use Rattle.dispenser_rules.specs.Unit.{cassette}
 use Rattle.dispenser_rules.specs.Errors.{no_errors, last_of, erred_by, errors_from}
 use Rattle.dispenser_rules.specs.declared.errors.LastErrors.{LastErrors}
 use Rattle.dispenser_rules.proofs.Demand3.{demand3}
-use Rattle.dispenser_rules.proofs.LastErrors.{errors-by-history}
+use Rattle.dispenser_rules.proofs.ErrorsTold.{errors-by-history}
 use Rattle.dispenser_rules.proofs.Kept.{kept-by-history as requests-by-history}
 use Rattle.dispenser_rules.specs.Requests.{oldest_first}
 use Rattle.dispenser_rules.specs.declared.session.Session.{Session}
