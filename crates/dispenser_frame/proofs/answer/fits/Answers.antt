@@ -27,6 +27,5 @@ returns-in-Tested c = rw c.in-Tested.is (simp (test_fields, c.tested_fits.ensure
 pub returns-in-Status : goal.returns-in-Status
 unfolding answer_fits all_in_range table line_in
 returns-in-Status c =
-    let k = c.known_told-in-Status-1.given in
     let b = any-byte c.in-Status.sensor1 (omega arith) in
     rw c.in-Status.is (simp (b, c.status_fits.ensures, and-true))
