@@ -6,12 +6,14 @@
 // A word: what it says, and what so many bills of its type are worth. A table: the body behind the colon is read into a table whose bytes are all 5Ah, so that it shows
 // what a reading leaves; then the table is written into a room of the size that the line gives, and its words are told, but for those of no bill.
 use bill_table::{Letters, Meaning, Total, Value, Word};
+use std::io;
+use std::io::Write;
 
 // What each byte of the table holds at first.
 const BEFORE: u8 = 0x5A;
 
-pub(crate) fn word(line: &[u8]) {
-    print_line(line);
+pub(crate) fn word<W: Write>(out: &mut W, line: &[u8]) -> io::Result<()> {
+    print_line(out, line)?;
     let word = Word {
         first: sheet::byte(line, 1),
         letters: Letters(
@@ -21,106 +23,118 @@ pub(crate) fn word(line: &[u8]) {
         ),
         last: sheet::byte(line, 5),
     };
-    sheet::print_text(b"    ");
-    print_meaning(bill_table::meaning_of(word));
-    sheet::print_text(b", ");
-    print_total(bill_table::total_of(word, sheet::number(line, 7)));
-    sheet::print_text(b"\n");
+    sheet::print_text(out, b"    ")?;
+    print_meaning(out, bill_table::meaning_of(word))?;
+    sheet::print_text(out, b", ")?;
+    print_total(out, bill_table::total_of(word, sheet::number(line, 7)))?;
+    sheet::print_text(out, b"\n")
 }
 
-fn print_line(line: &[u8]) {
-    sheet::print_text(b"  ");
-    sheet::print_text(line);
+fn print_line<W: Write>(out: &mut W, line: &[u8]) -> io::Result<()> {
+    sheet::print_text(out, b"  ")?;
+    sheet::print_text(out, line)
 }
 
-fn print_meaning(meaning: Meaning) {
+fn print_meaning<W: Write>(out: &mut W, meaning: Meaning) -> io::Result<()> {
     match meaning {
-        Meaning::NoBill => sheet::print_text(b"no such bill"),
-        Meaning::Unusable => sheet::print_text(b"unusable"),
+        Meaning::NoBill => sheet::print_text(out, b"no such bill"),
+        Meaning::Unusable => sheet::print_text(out, b"unusable"),
         Meaning::Valued(value) => {
-            sheet::print_text(b"value ");
-            print_value(value);
+            sheet::print_text(out, b"value ")?;
+            print_value(out, value)
         }
     }
 }
 
-fn print_total(total: Total) {
+fn print_total<W: Write>(out: &mut W, total: Total) -> io::Result<()> {
     match total {
-        Total::NoValue => sheet::print_text(b"no total"),
+        Total::NoValue => sheet::print_text(out, b"no total"),
         Total::Sum(value) => {
-            sheet::print_text(b"total ");
-            print_value(value);
+            sheet::print_text(out, b"total ")?;
+            print_value(out, value)
         }
-        Total::Refused(why) => sheet::print_form(b"total refused #", &[why.number() as u32]),
+        Total::Refused(why) => sheet::print_form(out, b"total refused #", &[why.number() as u32]),
     }
 }
 
 // The whole number, the letters, the decimals.
-fn print_value(value: Value) {
+fn print_value<W: Write>(out: &mut W, value: Value) -> io::Result<()> {
     let letters = value.letters;
-    io::print_decimal(1, value.whole);
-    sheet::print_text(b" ");
-    sheet::print_text(&[letters.0, letters.1, letters.2]);
-    sheet::print_text(b" ");
-    io::print_decimal(1, value.decimals);
+    write!(out, "{}", value.whole)?;
+    sheet::print_text(out, b" ")?;
+    sheet::print_text(out, &[letters.0, letters.1, letters.2])?;
+    sheet::print_text(out, b" ")?;
+    write!(out, "{}", value.decimals)
 }
 
-pub(crate) fn table(line: &[u8]) {
-    print_line(line);
+pub(crate) fn table<W: Write>(out: &mut W, line: &[u8]) -> io::Result<()> {
+    print_line(out, line)?;
     let mut store = sheet::long_room();
     let n = sheet::frame(line, &mut store);
     let end = sheet::at_most(n, &store);
     let mut table = [BEFORE; 120];
     if bill_table::read(&store[0..end], &mut table) {
-        sheet::print_text(b"    taken");
+        sheet::print_text(out, b"    taken")?;
     } else {
-        sheet::print_text(b"    not taken");
+        sheet::print_text(out, b"    not taken")?;
     }
-    print_written(&table, sheet::number(line, 2));
-    print_words(&table);
+    print_written(out, &table, sheet::number(line, 2))?;
+    print_words(out, &table)
 }
 
 // The table written into a room of that size.
-fn print_written(table: &[u8; 120], size: u32) {
+fn print_written<W: Write>(out: &mut W, table: &[u8; 120], size: u32) -> io::Result<()> {
     let mut lent = sheet::long_room();
-    written_in(table, size, &mut lent);
+    written_in(out, table, size, &mut lent)
 }
 
-fn written_in(table: &[u8; 120], size: u32, lent: &mut [u8]) {
+fn written_in<W: Write>(
+    out: &mut W,
+    table: &[u8; 120],
+    size: u32,
+    lent: &mut [u8],
+) -> io::Result<()> {
     let end = sheet::at_most(size as usize, lent);
     let put = bill_table::write(table, &mut lent[0..end]);
-    sheet::print_put(put, lent);
+    sheet::print_put(out, put, lent)?;
+    Ok(())
 }
 
 // The words but for those of no bill.
-fn print_words(table: &[u8; 120]) {
-    sheet::print_text(b"    words:");
+fn print_words<W: Write>(out: &mut W, table: &[u8; 120]) -> io::Result<()> {
+    sheet::print_text(out, b"    words:")?;
     let mut told: usize = 0;
     let mut bill: usize = 0;
     while bill < 24 {
         told = print_word(
+            out,
             bill,
             told,
             bill_table::meaning_of(bill_table::word_at(table, bill)),
-        );
+        )?;
         bill += 1;
     }
-    sheet::print_text(b"\n");
+    sheet::print_text(out, b"\n")
 }
 
 // How many words have been told then: 0, or 1 for any.
-fn print_word(bill: usize, told: usize, meaning: Meaning) -> usize {
+fn print_word<W: Write>(
+    out: &mut W,
+    bill: usize,
+    told: usize,
+    meaning: Meaning,
+) -> io::Result<usize> {
     match meaning {
-        Meaning::NoBill => told,
+        Meaning::NoBill => Ok(told),
         _ => {
             if 0 < told {
-                sheet::print_text(b";");
+                sheet::print_text(out, b";")?;
             }
-            sheet::print_text(b" ");
-            sheet::print_number(bill);
-            sheet::print_text(b" ");
-            print_meaning(meaning);
-            1
+            sheet::print_text(out, b" ")?;
+            sheet::print_number(out, bill)?;
+            sheet::print_text(out, b" ")?;
+            print_meaning(out, meaning)?;
+            Ok(1)
         }
     }
 }

@@ -6,6 +6,8 @@ use ccnet_frame::Judged;
 use dispenser_frame_rules::{AnswerRead, CommandRead};
 use error_codes::ErrorClass;
 use refusals::Put;
+use std::io;
+use std::io::Write;
 
 const READ: u8 = 32;
 
@@ -171,14 +173,14 @@ pub(crate) fn taken(fare: u8) -> u32
     if fare < ACK { 1 } else { 0 }
 }
 
-pub(crate) fn print(fare: u8) {
+pub(crate) fn print<W: Write>(out: &mut W, fare: u8) -> io::Result<()> {
     if fare < READ {
-        sheet::print_form(b" refused #;", &[fare as u32]);
-        return;
+        return sheet::print_form(out, b" refused #;", &[fare as u32]);
     }
     sheet::print_one(
+        out,
         b" read;| read, error listed;| read, error unlisted;| sent;| state;| busy;| rejecting;| failing;| escrow;| stacked;| returned;| ACK;| NAK;| illegal command;| unknown;| AT ODDS;|",
         (fare - READ) as usize,
         &[],
-    );
+    )
 }

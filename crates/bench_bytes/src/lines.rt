@@ -15,6 +15,8 @@
 ghost use Rattle.std.specs.Prelude.{◌≤◌};
 
 use crate::fares;
+use std::io;
+use std::io::Write;
 
 // Does a line with this verb try anything?
 pub(crate) fn is_tried(verb: u8) -> bool {
@@ -27,30 +29,34 @@ pub(crate) fn is_tried(verb: u8) -> bool {
     verb == b'c'
 }
 
-pub(crate) fn run(verb: u8, line: &[u8], given: &mut [u8]) {
+pub(crate) fn run<W: Write>(
+    out: &mut W,
+    verb: u8,
+    line: &[u8],
+    given: &mut [u8],
+) -> io::Result<()> {
     if verb == b'e' {
-        try_each(
+        return try_each(
+            out,
             sheet::letter(line, 4),
             sheet::number(line, 3) as usize,
             given,
         );
-        return;
     }
     if verb == b't' {
-        turn_each(given);
-        return;
+        return turn_each(out, given);
     }
-    print_check(ccnet_check::check_of(given));
+    print_check(out, ccnet_check::check_of(given))
 }
 
 // Low byte first.
-fn print_check(c: u16) {
-    sheet::print_bytes(&[(c % 256) as u8, (c / 256) as u8]);
-    sheet::print_text(b"\n");
+fn print_check<W: Write>(out: &mut W, c: u16) -> io::Result<()> {
+    sheet::print_bytes(out, &[(c % 256) as u8, (c / 256) as u8])?;
+    sheet::print_text(out, b"\n")
 }
 
 // Every byte at the place, and the runs of bytes that fare alike. Past the last byte nothing fares as it did.
-fn try_each(kind: u8, place: usize, given: &mut [u8]) {
+fn try_each<W: Write>(out: &mut W, kind: u8, place: usize, given: &mut [u8]) -> io::Result<()> {
     let mut taken: u32 = 0;
     let mut first: u32 = 0;
     let mut was = tried(kind, 0, place, given);
@@ -60,23 +66,23 @@ fn try_each(kind: u8, place: usize, given: &mut [u8]) {
         b += 1;
         let now = tried(kind, b, place, given);
         if now != was {
-            print_run(first, b, was);
+            print_run(out, first, b, was)?;
             first = b;
             was = now;
         }
     }
-    sheet::print_form(b" taken #\n", &[taken]);
+    sheet::print_form(out, b" taken #\n", &[taken])
 }
 
 // The bytes from the first to the one before the end.
-fn print_run(first: u32, end: u32, fare: u8) {
+fn print_run<W: Write>(out: &mut W, first: u32, end: u32, fare: u8) -> io::Result<()> {
     let last = (end % 512 + 255) % 256;
     if first == last {
-        sheet::print_form(b" $", &[first]);
+        sheet::print_form(out, b" $", &[first])?;
     } else {
-        sheet::print_form(b" $ to $", &[first, last]);
+        sheet::print_form(out, b" $ to $", &[first, last])?;
     }
-    fares::print(fare);
+    fares::print(out, fare)
 }
 
 // How a byte fares at the place. What is given keeps it.
@@ -137,14 +143,14 @@ fn put(b: u8, place: usize, given: &mut [u8]) {
 }
 
 // Every bit of the bytes, of which there are 32 at most.
-fn turn_each(given: &mut [u8]) {
+fn turn_each<W: Write>(out: &mut W, given: &mut [u8]) -> io::Result<()> {
     let mut refused: u32 = 0;
     let mut k: usize = 0;
     while k < 256 {
         refused = refused % 65_536 + turned(k, given);
         k += 1;
     }
-    sheet::print_form(b" refused #\n", &[refused]);
+    sheet::print_form(out, b" refused #\n", &[refused])
 }
 
 // 1 where the frame with that bit turned is refused. The byte is put back.

@@ -5,55 +5,58 @@
 
 mod words;
 
-use libc::{STDERR_FILENO, STDIN_FILENO};
+use std::io;
+use std::io::{BufWriter, Write};
 
 // One byte more than a sheet may have, so that one that is too long shows.
 const ROOM: usize = 262_145;
 
-fn main() {
+fn main(rt: HostRuntime) -> io::Result<()> {
     let mut store = [0u8; ROOM];
-    let got = files::read_all(STDIN_FILENO, &mut store);
-    if got < 0 {
-        os::fail(b"standard input");
-        return;
-    }
-    let n = io::count(got, &store);
+    let n = match files::read_all(&mut rt.stdin(), &mut store) {
+        Ok(n) => n,
+        Err(why) => {
+            files::fail(&mut rt.stderr(), b"standard input", why);
+            return Ok(());
+        }
+    };
     if n == ROOM {
-        io::write_all(STDERR_FILENO, b"standard input: over 262,144 bytes\n");
-        return;
+        return sheet::print_text(&mut rt.stderr(), b"standard input: over 262,144 bytes\n");
     }
-    each(&store[..n]);
+    let mut out = BufWriter::new(rt.alloc(), rt.stdout())?;
+    each(&mut out, &store[..n])?;
+    out.flush()
 }
 
 // Every line of a sheet, in turn.
-fn each(all: &[u8]) {
+fn each<W: Write>(out: &mut W, all: &[u8]) -> io::Result<()> {
     let mut at: usize = 0;
     while at < all.len() {
         let end = sheet::line_end(all, at);
-        one(&all[at..end]);
+        one(out, &all[at..end])?;
         at = end;
     }
+    Ok(())
 }
 
-fn one(line: &[u8]) {
+fn one<W: Write>(out: &mut W, line: &[u8]) -> io::Result<()> {
     if sheet::letter(line, 0) == b'p' {
-        pair(line);
-        return;
+        return pair(out, line);
     }
-    sheet::print_text(line);
+    sheet::print_text(out, line)
 }
 
-fn pair(line: &[u8]) {
+fn pair<W: Write>(out: &mut W, line: &[u8]) -> io::Result<()> {
     let mut student = [0u8; words::MOST];
     let mut reference = [0u8; words::MOST];
     let first = words::past_blank(line, 0);
     let second = words::past_blank(line, first);
     let n = words::put_bytes(&line[first..], &mut student);
     let m = words::put_bytes(&line[second..], &mut reference);
-    print(&student[0..n], &reference[0..m]);
+    print(out, &student[0..n], &reference[0..m])
 }
 
-fn print(student: &[u8], reference: &[u8]) {
+fn print<W: Write>(out: &mut W, student: &[u8], reference: &[u8]) -> io::Result<()> {
     let found = parted::parting(student, reference);
-    sheet_parted::print_parted(found, student, reference, found.at, found.records);
+    sheet_parted::print_parted(out, found, student, reference, found.at, found.records)
 }

@@ -1,8 +1,9 @@
 // What the words say: an amount, and then VALUE:STOCK for each cassette.
 ghost use Rattle.std.specs.Prelude.{◌≤◌, length};
 
-use libc::STDERR_FILENO;
 use numbers::Number;
+use std::io;
+use std::io::Write;
 
 pub(crate) fn is_digit(b: u8) -> bool {
     numbers::byte_within(b'0', b'9', b)
@@ -64,39 +65,41 @@ fn more(n: u32, digit: u8) -> u32 {
 
 // Keeps what a word says that has so many words before it: the amount as the first value, and then the value and the stock of each cassette, up to a fifth.
 // Answers false, and says why, where it is no number.
-pub(crate) fn keep(
+pub(crate) fn keep<D: Write>(
+    says: &mut D,
     word: &[u8],
     before: usize,
     values: &mut [u32; 6],
     stocks: &mut [u32; 6],
-) -> bool {
+) -> io::Result<bool> {
     if before == 0 {
-        return keep_amount(word, values);
+        return keep_amount(says, word, values);
     }
     let colon = place_of(b':', word, 0);
     if colon == word.len() {
         return refuse(
+            says,
             word,
             b": no number: a cassette is VALUE:STOCK, each digits alone\n",
         );
     }
     let Number::Of(value) = number_of(&word[0..colon]) else {
-        return refuse(word, b": no number: a note value is digits alone\n");
+        return refuse(says, word, b": no number: a note value is digits alone\n");
     };
     let Number::Of(stock) = number_of(&word[colon + 1..]) else {
-        return refuse(word, b": no number: a stock is digits alone\n");
+        return refuse(says, word, b": no number: a stock is digits alone\n");
     };
     put(value, before, values);
     put(stock, before, stocks);
-    true
+    Ok(true)
 }
 
-fn keep_amount(word: &[u8], values: &mut [u32; 6]) -> bool {
+fn keep_amount<D: Write>(says: &mut D, word: &[u8], values: &mut [u32; 6]) -> io::Result<bool> {
     let Number::Of(amount) = number_of(word) else {
-        return refuse(word, b": no number: an amount is digits alone\n");
+        return refuse(says, word, b": no number: an amount is digits alone\n");
     };
     put(amount, 0, values);
-    true
+    Ok(true)
 }
 
 fn put(n: u32, at: usize, store: &mut [u32; 6]) {
@@ -105,8 +108,8 @@ fn put(n: u32, at: usize, store: &mut [u32; 6]) {
     }
 }
 
-fn refuse(word: &[u8], why: &[u8]) -> bool {
-    io::write_all(STDERR_FILENO, word);
-    io::write_all(STDERR_FILENO, why);
-    false
+fn refuse<D: Write>(says: &mut D, word: &[u8], why: &[u8]) -> io::Result<bool> {
+    says.write_all(word)?;
+    says.write_all(why)?;
+    Ok(false)
 }

@@ -2,28 +2,33 @@
 use dispenser_rules::Session;
 use exchange_rules::Sums;
 use pretend_rules::{Device, Tally};
+use std::io;
+use std::io::Write;
 
-pub(crate) fn show(host: Session, device: Device) {
-    sums(b"host upper", host.account.cassettes.upper);
-    sums(b"host lower", host.account.cassettes.lower);
-    tally(b"device upper", device.tallies.upper);
-    tally(b"device lower", device.tallies.lower);
+pub(crate) fn show<W: Write>(out: &mut W, host: Session, device: Device) -> io::Result<()> {
+    sums(out, b"host upper", host.account.cassettes.upper)?;
+    sums(out, b"host lower", host.account.cassettes.lower)?;
+    tally(out, b"device upper", device.tallies.upper)?;
+    tally(out, b"device lower", device.tallies.lower)?;
     told(
+        out,
         b"host idle, |host open, |",
         exchange::line::is_open(host.line),
-    );
+    )?;
     told(
+        out,
         b"device idle: |device busy: |",
         pretend::is_busy(device.wire),
-    );
+    )?;
     let upper = same(host.account.cassettes.upper, device.tallies.upper);
     let lower = same(host.account.cassettes.lower, device.tallies.lower);
-    told(b"differ\n|agree\n|", xor_frame::both(upper, lower));
+    told(out, b"differ\n|agree\n|", xor_frame::both(upper, lower))
 }
 
-fn sums(name: &[u8], s: Sums) {
-    sheet::print_text(name);
+fn sums<W: Write>(out: &mut W, name: &[u8], s: Sums) -> io::Result<()> {
+    sheet::print_text(out, name)?;
     sheet::print_form(
+        out,
         b" asked # paid # short # over # refused # unknown # open # rejected #\n",
         &[
             s.asked.0,
@@ -35,21 +40,20 @@ fn sums(name: &[u8], s: Sums) {
             s.pending.0,
             s.rejected.0,
         ],
-    );
+    )
 }
 
-fn tally(name: &[u8], t: Tally) {
-    sheet::print_text(name);
-    sheet::print_form(b" paid # rejected #\n", &[t.paid.0, t.rejected.0]);
+fn tally<W: Write>(out: &mut W, name: &[u8], t: Tally) -> io::Result<()> {
+    sheet::print_text(out, name)?;
+    sheet::print_form(out, b" paid # rejected #\n", &[t.paid.0, t.rejected.0])
 }
 
 // The first of two texts where it is not so, the second where it is.
-fn told(texts: &[u8], is: bool) {
+fn told<W: Write>(out: &mut W, texts: &[u8], is: bool) -> io::Result<()> {
     if is {
-        sheet::print_one(texts, 1, &[]);
-        return;
+        return sheet::print_one(out, texts, 1, &[]);
     }
-    sheet::print_one(texts, 0, &[]);
+    sheet::print_one(out, texts, 0, &[])
 }
 
 // Do both ends say the same of a cassette?

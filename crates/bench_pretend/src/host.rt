@@ -3,6 +3,8 @@ ghost use Rattle.std.specs.Prelude.{◌≤◌};
 
 use dispenser_rules::{Closing, Outcome, Reply, Session};
 use sheet_device::{moves, way};
+use std::io;
+use std::io::Write;
 
 #[derive(Clone, Copy)]
 enum Call {
@@ -13,20 +15,21 @@ enum Call {
 }
 
 // Every call of a move, in turn.
-pub(crate) fn moved(
+pub(crate) fn moved<W: Write>(
+    out: &mut W,
     word: &[u8],
     session: Session,
     up: &mut [usize],
     down: &mut [usize],
-) -> Session {
+) -> io::Result<Session> {
     let what = moves::what(b'h', word);
     let mut now = session;
     let mut left = moves::calls(what, word, up, down);
     while 0 < left {
-        now = one(call_of(what, word, up), way::room(down), now, down);
+        now = one(out, call_of(what, word, up), way::room(down), now, down)?;
         left -= 1;
     }
-    now
+    Ok(now)
 }
 
 fn call_of(what: u8, word: &[u8], up: &mut [usize]) -> Call {
@@ -50,14 +53,20 @@ fn call_of(what: u8, word: &[u8], up: &mut [usize]) -> Call {
 }
 
 // Makes a call, and shows what it answered; what it put is on its way.
-fn one(call: Call, size: usize, session: Session, down: &mut [usize]) -> Session
+fn one<W: Write>(
+    out: &mut W,
+    call: Call,
+    size: usize,
+    session: Session,
+    down: &mut [usize],
+) -> io::Result<Session>
     requires { size ≤ 24 }
 {
     let mut lent = sheet::short_room();
     let outcome = made(call, session, &mut lent[0..size]);
     let reply = outcome.reply;
-    show(reply, &lent, down);
-    outcome.session
+    show(out, reply, &lent, down)?;
+    Ok(outcome.session)
 }
 
 fn made(call: Call, session: Session, lent: &mut [u8]) -> Outcome {
@@ -71,21 +80,21 @@ fn made(call: Call, session: Session, lent: &mut [u8]) -> Outcome {
     }
 }
 
-fn show(reply: Reply, lent: &[u8], down: &mut [usize]) {
+fn show<W: Write>(out: &mut W, reply: Reply, lent: &[u8], down: &mut [usize]) -> io::Result<()> {
     match reply {
-        Reply::NotDone(why) => sheet::print_form(b"host refused #\n", &[why.number() as u32]),
+        Reply::NotDone(why) => sheet::print_form(out, b"host refused #\n", &[why.number() as u32]),
         Reply::Done { put, closing } => {
-            way::put_on(b"host puts", put, lent, down);
-            closed(closing);
+            way::put_on(out, b"host puts", put, lent, down)?;
+            closed(out, closing)
         }
     }
 }
 
-fn closed(closing: Closing) {
+fn closed<W: Write>(out: &mut W, closing: Closing) -> io::Result<()> {
     match closing {
-        Closing::Nothing => {}
-        Closing::Answered(_, _) => sheet::print_text(b"host closes answered\n"),
-        Closing::Refused => sheet::print_text(b"host closes refused\n"),
-        Closing::Unknown => sheet::print_text(b"host closes unknown\n"),
+        Closing::Nothing => Ok(()),
+        Closing::Answered(_, _) => sheet::print_text(out, b"host closes answered\n"),
+        Closing::Refused => sheet::print_text(out, b"host closes refused\n"),
+        Closing::Unknown => sheet::print_text(out, b"host closes unknown\n"),
     }
 }

@@ -7,61 +7,64 @@ mod bench;
 mod host;
 
 use dispenser_rules::Session;
-use libc::{STDERR_FILENO, STDIN_FILENO};
 use pretend_rules::Device;
 use sheet_device::{moves, way};
+use std::io;
+use std::io::{BufWriter, Write};
 
 // One byte more than a sheet may have, so that one that is too long shows.
 const ROOM: usize = 262_145;
 
-fn main() {
+fn main(rt: HostRuntime) -> io::Result<()> {
     let mut store = [0u8; ROOM];
-    let got = files::read_all(STDIN_FILENO, &mut store);
-    if got < 0 {
-        os::fail(b"standard input");
-        return;
-    }
-    let n = io::count(got, &store);
+    let n = match files::read_all(&mut rt.stdin(), &mut store) {
+        Ok(n) => n,
+        Err(why) => {
+            files::fail(&mut rt.stderr(), b"standard input", why);
+            return Ok(());
+        }
+    };
     if n == ROOM {
-        io::write_all(STDERR_FILENO, b"standard input: over 262,144 bytes\n");
-        return;
+        return sheet::print_text(&mut rt.stderr(), b"standard input: over 262,144 bytes\n");
     }
-    each(&store[..n]);
+    let mut out = BufWriter::new(rt.alloc(), rt.stdout())?;
+    each(&mut out, &store[..n])?;
+    out.flush()
 }
 
 // Every line of a sheet, in turn.
-fn each(all: &[u8]) {
+fn each<W: Write>(out: &mut W, all: &[u8]) -> io::Result<()> {
     let mut at: usize = 0;
     while at < all.len() {
         let end = sheet::line_end(all, at);
-        one(&all[at..end]);
+        one(out, &all[at..end])?;
         at = end;
     }
+    Ok(())
 }
 
 // A line that begins with run is one: the device's way up and the host's way down, and its moves.
-fn one(line: &[u8]) {
+fn one<W: Write>(out: &mut W, line: &[u8]) -> io::Result<()> {
     if !moves::is_run(line) {
-        sheet::print_text(line);
-        return;
+        return sheet::print_text(out, line);
     }
     let mut up = [0usize; way::LENGTH];
     let mut down = [0usize; way::LENGTH];
     up[way::ROOM] = Device::ROOM;
     down[way::ROOM] = Session::ROOM;
-    run(line, &mut up, &mut down);
+    run(out, line, &mut up, &mut down)
 }
 
 // Every word behind the first, in turn; then what both accounts say.
-fn run(line: &[u8], up: &mut [usize], down: &mut [usize]) {
+fn run<W: Write>(out: &mut W, line: &[u8], up: &mut [usize], down: &mut [usize]) -> io::Result<()> {
     let mut session = Session::fresh();
     let mut device = Device::fresh();
     let mut at = sheet::past(line, 0, b' ');
     while at < line.len() {
         let end = sheet::past(line, at, b' ');
-        session = host::moved(&line[at..end], session, up, down);
-        device = sheet_device::moved(&line[at..end], device, down, up);
+        session = host::moved(out, &line[at..end], session, up, down)?;
+        device = sheet_device::moved(out, &line[at..end], device, down, up)?;
         at = end;
     }
-    bench::show(session, device);
+    bench::show(out, session, device)
 }

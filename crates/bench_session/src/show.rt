@@ -1,47 +1,49 @@
 // What a call answered, and what the account says. A call that sends, closes or is refused says so in a line of its own.
 use dispenser_rules::{Closing, Reply, Session};
 use exchange_rules::Sums;
+use std::io;
+use std::io::Write;
 
 // Clear is lent no room; of commands that are refused one by one nothing is said.
-pub(crate) fn reply(kind: u8, reply: Reply, lent: &[u8]) {
+pub(crate) fn reply<W: Write>(out: &mut W, kind: u8, reply: Reply, lent: &[u8]) -> io::Result<()> {
     if kind == b'c' {
-        return;
+        return Ok(());
     }
     match reply {
         Reply::NotDone(why) => {
             if kind == b'o' {
-                sheet::print_form(b"    -> refused #\n", &[why.number() as u32]);
-                return;
+                return sheet::print_form(out, b"    -> refused #\n", &[why.number() as u32]);
             }
-            sheet::print_not_done(why.number(), lent);
+            sheet::print_not_done(out, why.number(), lent)
         }
         Reply::Done { put, closing } => {
-            sheet::print_done(put, lent);
-            closed(closing);
+            sheet::print_done(out, put, lent)?;
+            closed(out, closing)
         }
     }
 }
 
-fn closed(closing: Closing) {
+fn closed<W: Write>(out: &mut W, closing: Closing) -> io::Result<()> {
     match closing {
-        Closing::Nothing => {}
+        Closing::Nothing => Ok(()),
         Closing::Answered(answer, class) => {
-            sheet::print_text(b"    closed, answered");
-            sheet_answer::print_read(answer, class);
+            sheet::print_text(out, b"    closed, answered")?;
+            sheet_answer::print_read(out, answer, class)
         }
-        Closing::Refused => sheet::print_text(b"    closed, refused\n"),
-        Closing::Unknown => sheet::print_text(b"    closed, unknown\n"),
+        Closing::Refused => sheet::print_text(out, b"    closed, refused\n"),
+        Closing::Unknown => sheet::print_text(out, b"    closed, unknown\n"),
     }
 }
 
-pub(crate) fn account(session: Session) {
-    sums(b"    upper", session.account.cassettes.upper);
-    sums(b"    lower", session.account.cassettes.lower);
+pub(crate) fn account<W: Write>(out: &mut W, session: Session) -> io::Result<()> {
+    sums(out, b"    upper", session.account.cassettes.upper)?;
+    sums(out, b"    lower", session.account.cassettes.lower)
 }
 
-fn sums(name: &[u8], s: Sums) {
-    sheet::print_text(name);
+fn sums<W: Write>(out: &mut W, name: &[u8], s: Sums) -> io::Result<()> {
+    sheet::print_text(out, name)?;
     sheet::print_form(
+        out,
         b" asked # paid # short # over # refused # unknown # open # rejected #\n",
         &[
             s.asked.0,
@@ -53,5 +55,5 @@ fn sums(name: &[u8], s: Sums) {
             s.pending.0,
             s.rejected.0,
         ],
-    );
+    )
 }

@@ -11,6 +11,8 @@
 //     count listed error bytes
 use dispenser_frame_rules::{Answer, AnswerRead, Cassette};
 use error_codes::ErrorClass;
+use std::io;
+use std::io::Write;
 
 // The answer that a line gives, with its fields in 01's order.
 pub(crate) fn given(line: &[u8]) -> Answer {
@@ -78,13 +80,13 @@ fn tested(line: &[u8], cassette: Cassette) -> Answer {
 }
 
 // What reading an answer finds.
-pub(crate) fn found(s: &[u8]) {
+pub(crate) fn found<W: Write>(out: &mut W, s: &[u8]) -> io::Result<()> {
     match dispenser_frame::read_answer(s) {
         AnswerRead::Read { answer, class } => {
-            sheet::print_text(b" reads as");
-            sheet_answer::print_read(answer, class);
+            sheet::print_text(out, b" reads as")?;
+            sheet_answer::print_read(out, answer, class)
         }
-        AnswerRead::Refused(why) => sheet::print_fault(why.number()),
+        AnswerRead::Refused(why) => sheet::print_fault(out, why.number()),
     }
 }
 

@@ -11,6 +11,8 @@
 use ccnet_class::Class;
 use ccnet_frame::Judged;
 use refusals::Put;
+use std::io;
+use std::io::Write;
 
 // Writes what the line gives.
 pub(crate) fn put(kind: u8, line: &[u8], lent: &mut [u8]) -> Put {
@@ -34,47 +36,47 @@ fn put_given(kind: u8, line: &[u8], given: &[u8], lent: &mut [u8]) -> Put {
 }
 
 // What a body says, or what reading a frame finds: the address and the body.
-pub(crate) fn found(kind: u8, s: &[u8]) {
+pub(crate) fn found<W: Write>(out: &mut W, kind: u8, s: &[u8]) -> io::Result<()> {
     if kind == b'S' {
-        print_class(ccnet_class::classify(s));
-        return;
+        return print_class(out, ccnet_class::classify(s));
     }
     match ccnet_frame::judge(s) {
-        Judged::Good { address } => sheet::print_form(b" address $", &[address as u32]),
-        Judged::Refused(why) => sheet::print_form(b" refused #", &[why.number() as u32]),
+        Judged::Good { address } => sheet::print_form(out, b" address $", &[address as u32])?,
+        Judged::Refused(why) => sheet::print_form(out, b" refused #", &[why.number() as u32])?,
     }
-    print_body(ccnet_frame::body(s));
+    print_body(out, ccnet_frame::body(s))
 }
 
-fn print_body(body: &[u8]) {
-    sheet::print_text(b", body of ");
-    sheet::print_number(body.len());
-    sheet::print_text(b":");
-    sheet::print_bytes(body);
-    sheet::print_text(b"\n");
+fn print_body<W: Write>(out: &mut W, body: &[u8]) -> io::Result<()> {
+    sheet::print_text(out, b", body of ")?;
+    sheet::print_number(out, body.len())?;
+    sheet::print_text(out, b":")?;
+    sheet::print_bytes(out, body)?;
+    sheet::print_text(out, b"\n")
 }
 
-fn print_class(class: Class) {
+fn print_class<W: Write>(out: &mut W, class: Class) -> io::Result<()> {
     match class {
-        Class::Ack => told(0, 0),
-        Class::Nak => told(1, 0),
-        Class::Illegal => told(2, 0),
-        Class::State(b) => told(3, b),
-        Class::Busy(b) => told(4, b),
-        Class::Rejecting(b) => told(5, b),
-        Class::Failing(b) => told(6, b),
-        Class::Escrow(b) => told(7, b),
-        Class::Stacked(b) => told(8, b),
-        Class::Returned(b) => told(9, b),
-        Class::Unknown => told(10, 0),
-        Class::Table => told(11, 0),
+        Class::Ack => told(out, 0, 0),
+        Class::Nak => told(out, 1, 0),
+        Class::Illegal => told(out, 2, 0),
+        Class::State(b) => told(out, 3, b),
+        Class::Busy(b) => told(out, 4, b),
+        Class::Rejecting(b) => told(out, 5, b),
+        Class::Failing(b) => told(out, 6, b),
+        Class::Escrow(b) => told(out, 7, b),
+        Class::Stacked(b) => told(out, 8, b),
+        Class::Returned(b) => told(out, 9, b),
+        Class::Unknown => told(out, 10, 0),
+        Class::Table => told(out, 11, 0),
     }
 }
 
-fn told(which: usize, b: u8) {
+fn told<W: Write>(out: &mut W, which: usize, b: u8) -> io::Result<()> {
     sheet::print_one(
+        out,
         b" ACK\n| NAK\n| illegal command\n| state $\n| busy $\n| rejecting $\n| failing $\n| escrow of type #\n| stacked type #\n| returned type #\n| unknown\n| table\n|",
         which,
         &[b as u32],
-    );
+    )
 }

@@ -4,6 +4,8 @@
 //     read command, five bytes: 04 50 02 44 03
 use dispenser_frame_rules::CommandRead;
 use refusals::Put;
+use std::io;
+use std::io::Write;
 
 // Writes the command that a line gives.
 pub(crate) fn put(line: &[u8], room: &mut [u8]) -> Put {
@@ -14,12 +16,13 @@ pub(crate) fn put(line: &[u8], room: &mut [u8]) -> Put {
 }
 
 // What reading a command finds: its code and counts.
-pub(crate) fn found(s: &[u8]) {
+pub(crate) fn found<W: Write>(out: &mut W, s: &[u8]) -> io::Result<()> {
     match dispenser_frame::read_command(s) {
         CommandRead::Read { code, upper, lower } => sheet::print_form(
+            out,
             b" reads as $ upper # lower #\n",
             &[code as u32, upper, lower],
         ),
-        CommandRead::Refused(why) => sheet::print_fault(why.number()),
+        CommandRead::Refused(why) => sheet::print_fault(out, why.number()),
     }
 }

@@ -9,6 +9,8 @@
 // A part that joins the sheet adds a kind here, and a module that puts what a line gives and says what its reader found.
 use crate::{answer_lines, ccnet_lines, command_lines, numbers_lines};
 use refusals::Put;
+use std::io;
+use std::io::Write;
 
 // What is tried: the first letter of the line's second word, as a capital where it is the validator's.
 pub(crate) fn kind(verb: u8, line: &[u8]) -> u8 {
@@ -31,23 +33,24 @@ pub(crate) fn tries(verb: u8, kind: u8) -> u8 {
 }
 
 // Writes the values to a room of the size given. What was put is read back, but for decimal text, which is for people.
-pub(crate) fn write(kind: u8, line: &[u8]) {
-    sheet::print_line(line);
+pub(crate) fn write<W: Write>(out: &mut W, kind: u8, line: &[u8]) -> io::Result<()> {
+    sheet::print_line(out, line)?;
     let mut room = sheet::long_room();
-    write_in(kind, line, &mut room);
+    write_in(out, kind, line, &mut room)
 }
 
-fn write_in(kind: u8, line: &[u8], room: &mut [u8]) {
+fn write_in<W: Write>(out: &mut W, kind: u8, line: &[u8], room: &mut [u8]) -> io::Result<()> {
     let end = sheet::size(line, room.len());
     let answered = put(kind, line, &mut room[0..end]);
-    let used = sheet::print_put(answered, room);
+    let used = sheet::print_put(out, answered, room)?;
     if used == 0 {
-        return;
+        return Ok(());
     }
     if kind != b'd' {
-        sheet::print_text(b"   ");
-        found(kind, &room[0..used]);
+        sheet::print_text(out, b"   ")?;
+        found(out, kind, &room[0..used])?;
     }
+    Ok(())
 }
 
 fn put(kind: u8, line: &[u8], room: &mut [u8]) -> Put {
@@ -64,38 +67,35 @@ fn put(kind: u8, line: &[u8], room: &mut [u8]) -> Put {
 }
 
 // Reads the frame that the line gives.
-pub(crate) fn read(kind: u8, line: &[u8]) {
-    sheet::print_line(line);
-    sheet::print_text(b" ->");
+pub(crate) fn read<W: Write>(out: &mut W, kind: u8, line: &[u8]) -> io::Result<()> {
+    sheet::print_line(out, line)?;
+    sheet::print_text(out, b" ->")?;
     let mut store = [0u8; 300];
     let n = sheet::frame(line, &mut store);
-    found(kind, &store[0..n]);
+    found(out, kind, &store[0..n])
 }
 
-fn found(kind: u8, s: &[u8]) {
+fn found<W: Write>(out: &mut W, kind: u8, s: &[u8]) -> io::Result<()> {
     if kind == b'c' {
-        command_lines::found(s);
-        return;
+        return command_lines::found(out, s);
     }
     if kind == b'a' {
-        answer_lines::found(s);
-        return;
+        return answer_lines::found(out, s);
     }
     if kind < b'a' {
-        ccnet_lines::found(kind, s);
-        return;
+        return ccnet_lines::found(out, kind, s);
     }
-    numbers_lines::found(kind, s);
+    numbers_lines::found(out, kind, s)
 }
 
 // Counts what the line's second word names.
-pub(crate) fn count(kind: u8, line: &[u8]) {
-    sheet::print_line(line);
-    sheet::print_text(b" ");
+pub(crate) fn count<W: Write>(out: &mut W, kind: u8, line: &[u8]) -> io::Result<()> {
+    sheet::print_line(out, line)?;
+    sheet::print_text(out, b" ")?;
     if kind == b'b' {
-        sheet::print_number(dispenser_frame::answer_length(sheet::byte(line, 6)));
+        sheet::print_number(out, dispenser_frame::answer_length(sheet::byte(line, 6)))?;
     } else {
-        sheet::print_number(answer_lines::listed_bytes());
+        sheet::print_number(out, answer_lines::listed_bytes())?;
     }
-    sheet::print_text(b"\n");
+    sheet::print_text(out, b"\n")
 }

@@ -6,44 +6,47 @@
 // The lines are data and not code, so that the sheet can grow and the proofs do not.
 #![tactic(auto)]
 
+use std::io;
+use std::io::{BufWriter, Write};
+
 mod answer_lines;
 mod ccnet_lines;
 mod command_lines;
 mod lines;
 mod numbers_lines;
 
-fn main() {
-    let mut store = io::large_buffer();
-    let n = io::read_full(0, &mut store);
-    each(&store[..n]);
+fn main(rt: HostRuntime) -> io::Result<()> {
+    let mut store = [0u8; 65_536];
+    let n = files::read_all(&mut rt.stdin(), &mut store)?;
+    let mut out = BufWriter::new(rt.alloc(), rt.stdout())?;
+    each(&mut out, &store[..n])?;
+    out.flush()
 }
 
 // Every line of a sheet, in turn.
-fn each(all: &[u8]) {
+fn each<W: Write>(out: &mut W, all: &[u8]) -> io::Result<()> {
     let mut at: usize = 0;
     while at < all.len() {
         let end = sheet::line_end(all, at);
-        one(&all[at..end]);
+        one(out, &all[at..end])?;
         at = end;
     }
+    Ok(())
 }
 
 // One line, by what it tries.
-fn one(line: &[u8]) {
+fn one<W: Write>(out: &mut W, line: &[u8]) -> io::Result<()> {
     let verb = sheet::letter(line, 0);
     let kind = lines::kind(verb, line);
     let tries = lines::tries(verb, kind);
     if tries == b'w' {
-        lines::write(kind, line);
-        return;
+        return lines::write(out, kind, line);
     }
     if tries == b'r' {
-        lines::read(kind, line);
-        return;
+        return lines::read(out, kind, line);
     }
     if tries == b'c' {
-        lines::count(kind, line);
-        return;
+        return lines::count(out, kind, line);
     }
-    sheet::print_text(line);
+    sheet::print_text(out, line)
 }

@@ -7,6 +7,8 @@
 //     read two-digits, five: 30 35
 use numbers::{Number, Seven};
 use refusals::Put;
+use std::io;
+use std::io::Write;
 
 // Writes a number. The digits of a count fill their room.
 pub(crate) fn put(kind: u8, n: u32, room: &mut [u8]) -> Put {
@@ -21,24 +23,23 @@ pub(crate) fn put(kind: u8, n: u32, room: &mut [u8]) -> Put {
 }
 
 // What reading a number finds, in groups of seven bits or in digits.
-pub(crate) fn found(kind: u8, s: &[u8]) {
+pub(crate) fn found<W: Write>(out: &mut W, kind: u8, s: &[u8]) -> io::Result<()> {
     if kind == b'g' {
-        groups(numbers::read_groups(s));
-        return;
+        return groups(out, numbers::read_groups(s));
     }
     match numbers::read_digits(s) {
-        Number::Of(n) => sheet::print_form(b" reads as #\n", &[n]),
-        Number::NoNumber => sheet::print_text(b" no number\n"),
+        Number::Of(n) => sheet::print_form(out, b" reads as #\n", &[n]),
+        Number::NoNumber => sheet::print_text(out, b" no number\n"),
     }
 }
 
-fn groups(found: Seven) {
+fn groups<W: Write>(out: &mut W, found: Seven) -> io::Result<()> {
     match found {
         Seven::Value { value, used } => {
-            sheet::print_form(b" reads as #, length ", &[value]);
-            sheet::print_number(used);
-            sheet::print_text(b"\n");
+            sheet::print_form(out, b" reads as #, length ", &[value])?;
+            sheet::print_number(out, used)?;
+            sheet::print_text(out, b"\n")
         }
-        _ => sheet::print_fault(found.number()),
+        _ => sheet::print_fault(out, found.number()),
     }
 }

@@ -8,6 +8,9 @@
 //     session kept:
 ghost use Rattle.std.specs.Prelude.{◌≤◌, length};
 
+use std::io;
+use std::io::Write;
+
 #[derive(Clone, Copy)]
 pub(crate) enum Call {
     Request(u8),
@@ -19,14 +22,14 @@ pub(crate) enum Call {
 const UNANSWERED: u64 = 3;
 
 // Prints a line, and says its kind; 0 for a line that tells no calls.
-pub(crate) fn kind(line: &[u8]) -> u8 {
+pub(crate) fn kind<W: Write>(out: &mut W, line: &[u8]) -> io::Result<u8> {
     if sheet::letter(line, 0) != b's' {
-        sheet::print_text(line);
-        return 0;
+        sheet::print_text(out, line)?;
+        return Ok(0);
     }
-    sheet::print_text(b"  ");
-    sheet::print_text(line);
-    sheet::letter(line, 1)
+    sheet::print_text(out, b"  ")?;
+    sheet::print_text(out, line)?;
+    Ok(sheet::letter(line, 1))
 }
 
 // How many calls a line of some kind tells.

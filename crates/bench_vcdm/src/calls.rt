@@ -7,6 +7,8 @@
 //     session dispenses refused: 94
 //     session account:
 use crate::{frame_lines, words};
+use std::io;
+use std::io::Write;
 use vcdm_frame_rules::Counts;
 
 #[derive(Clone, Copy)]
@@ -20,14 +22,14 @@ pub(crate) enum Call {
 const REFUSED: u64 = 11;
 
 // Prints a line, and says its kind; 0 for a line that tells no calls.
-pub(crate) fn kind(line: &[u8]) -> u8 {
+pub(crate) fn kind<W: Write>(out: &mut W, line: &[u8]) -> io::Result<u8> {
     if sheet::letter(line, 0) != b's' {
-        frame_lines::run(line);
-        return 0;
+        frame_lines::run(out, line)?;
+        return Ok(0);
     }
-    sheet::print_text(b"  ");
-    sheet::print_text(line);
-    sheet::letter(line, 1)
+    sheet::print_text(out, b"  ")?;
+    sheet::print_text(out, line)?;
+    Ok(sheet::letter(line, 1))
 }
 
 // How many calls a line of some kind tells.

@@ -8,33 +8,34 @@
 // What was put is read back below it.
 use crate::{show, words};
 use refusals::Put;
+use std::io;
+use std::io::Write;
 use vcdm_frame_rules::{AnswerRead, CommandRead};
 
 // A line by its verb.
-pub(crate) fn run(line: &[u8]) {
+pub(crate) fn run<W: Write>(out: &mut W, line: &[u8]) -> io::Result<()> {
     let verb = sheet::letter(line, 0);
     if verb == b'w' {
         let mut lent = words::room();
-        write(line, &mut lent);
-        return;
+        return write(out, line, &mut lent);
     }
     if verb == b'r' {
-        read(line);
-        return;
+        return read(out, line);
     }
-    sheet::print_text(line);
+    sheet::print_text(out, line)
 }
 
 // Writes what the line gives to a room of the size that it gives.
-fn write(line: &[u8], lent: &mut [u8]) {
-    sheet::print_line(line);
+fn write<W: Write>(out: &mut W, line: &[u8], lent: &mut [u8]) -> io::Result<()> {
+    sheet::print_line(out, line)?;
     let end = sheet::size(line, lent.len());
     let put = put_frame(line, &mut lent[0..end]);
-    let n = sheet::print_put(put, lent);
+    let n = sheet::print_put(out, put, lent)?;
     if 0 < n {
-        sheet::print_text(b"   ");
-        found(line, &lent[0..n]);
+        sheet::print_text(out, b"   ")?;
+        found(out, line, &lent[0..n])?;
     }
+    Ok(())
 }
 
 fn put_frame(line: &[u8], lent: &mut [u8]) -> Put {
@@ -46,39 +47,38 @@ fn put_frame(line: &[u8], lent: &mut [u8]) -> Put {
 }
 
 // Reads the frame behind the line's colon.
-fn read(line: &[u8]) {
-    sheet::print_line(line);
-    sheet::print_text(b" ->");
+fn read<W: Write>(out: &mut W, line: &[u8]) -> io::Result<()> {
+    sheet::print_line(out, line)?;
+    sheet::print_text(out, b" ->")?;
     let mut store = [0u8; 64];
     let n = sheet::frame(line, &mut store);
-    found(line, &store[0..n]);
+    found(out, line, &store[0..n])
 }
 
-fn found(line: &[u8], s: &[u8]) {
+fn found<W: Write>(out: &mut W, line: &[u8], s: &[u8]) -> io::Result<()> {
     if sheet::letter(line, 1) == b'c' {
-        found_command(s);
-        return;
+        return found_command(out, s);
     }
-    found_answer(s);
+    found_answer(out, s)
 }
 
-fn found_command(s: &[u8]) {
+fn found_command<W: Write>(out: &mut W, s: &[u8]) -> io::Result<()> {
     match vcdm_frame::read_command(s) {
         CommandRead::Read {
             code,
             counts,
             serial,
-        } => show::command(code, counts, serial),
-        CommandRead::Refused(why) => sheet::print_fault(why.number()),
+        } => show::command(out, code, counts, serial),
+        CommandRead::Refused(why) => sheet::print_fault(out, why.number()),
     }
 }
 
-fn found_answer(s: &[u8]) {
+fn found_answer<W: Write>(out: &mut W, s: &[u8]) -> io::Result<()> {
     match vcdm_frame::read_answer(s) {
         AnswerRead::Read(answer) => {
-            sheet::print_text(b" reads as");
-            show::answer(answer);
+            sheet::print_text(out, b" reads as")?;
+            show::answer(out, answer)
         }
-        AnswerRead::Refused(why) => sheet::print_fault(why.number()),
+        AnswerRead::Refused(why) => sheet::print_fault(out, why.number()),
     }
 }

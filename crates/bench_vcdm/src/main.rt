@@ -5,6 +5,8 @@
 ghost use Rattle.std.specs.Prelude.{◌≤◌};
 
 use calls::Call;
+use std::io;
+use std::io::{BufWriter, Write};
 use vcdm_rules::{Outcome, Session};
 
 mod calls;
@@ -12,57 +14,66 @@ mod frame_lines;
 mod show;
 mod words;
 
-fn main() {
-    let mut store = io::large_buffer();
-    let n = io::read_full(0, &mut store);
-    each(&store[..n]);
+fn main(rt: HostRuntime) -> io::Result<()> {
+    let mut store = [0u8; 65_536];
+    let n = files::read_all(&mut rt.stdin(), &mut store)?;
+    let mut out = BufWriter::new(rt.alloc(), rt.stdout())?;
+    each(&mut out, &store[..n])?;
+    out.flush()
 }
 
 // Every line of a sheet, in turn. One session goes through them all, from one start to the next.
-fn each(all: &[u8]) {
+fn each<W: Write>(out: &mut W, all: &[u8]) -> io::Result<()> {
     let mut session = Session::fresh();
     let mut at: usize = 0;
     while at < all.len() {
         let end = sheet::line_end(all, at);
-        session = run(&all[at..end], session);
+        session = run(out, &all[at..end], session)?;
         at = end;
     }
+    Ok(())
 }
 
 // Every call of a line, in turn.
-fn run(line: &[u8], session: Session) -> Session {
-    let kind = calls::kind(line);
+fn run<W: Write>(out: &mut W, line: &[u8], session: Session) -> io::Result<Session> {
+    let kind = calls::kind(out, line)?;
     let calls = calls::count(kind, line);
     let size = sheet::size(line, 40);
-    let mut now = begun(kind, session);
+    let mut now = begun(out, kind, session)?;
     let mut k: u64 = 0;
     while k < calls {
-        now = one(kind, calls::nth(kind, line, k), size, now);
+        now = one(out, kind, calls::nth(kind, line, k), size, now)?;
         k += 1;
     }
-    now
+    Ok(now)
 }
 
 // What a line begins with: a fresh session, or the account printed.
-fn begun(kind: u8, session: Session) -> Session {
+fn begun<W: Write>(out: &mut W, kind: u8, session: Session) -> io::Result<Session> {
     if kind == b's' {
-        return Session::fresh();
+        return Ok(Session::fresh());
     }
     if kind == b'a' {
-        show::account(session);
+        show::account(out, session)?;
     }
-    session
+    Ok(session)
 }
 
 // Makes a call, and shows what it answered.
-fn one(kind: u8, call: Call, size: usize, session: Session) -> Session
+fn one<W: Write>(
+    out: &mut W,
+    kind: u8,
+    call: Call,
+    size: usize,
+    session: Session,
+) -> io::Result<Session>
     requires { size ≤ 40 }
 {
     let mut lent = words::room();
     let outcome = made(call, session, &mut lent[0..size]);
     let reply = outcome.reply;
-    show::reply(kind, reply, &lent);
-    outcome.session
+    show::reply(out, kind, reply, &lent)?;
+    Ok(outcome.session)
 }
 
 fn made(call: Call, session: Session, lent: &mut [u8]) -> Outcome {

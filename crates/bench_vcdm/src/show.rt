@@ -1,45 +1,48 @@
 // What a call answered, what the account says, and commands and answers with their fields in the frame's order. A call that sends, closes or is refused says so in a line of its
 // own.
 use exchange_rules::Sums;
+use std::io;
+use std::io::Write;
 use vcdm_frame_rules::{Answer, Cassettes, Counts, Place, Places, Spare};
 use vcdm_rules::{Closing, Reply, Session};
 
 // Of dispenses that are refused one by one nothing is said.
-pub(crate) fn reply(kind: u8, reply: Reply, lent: &[u8]) {
+pub(crate) fn reply<W: Write>(out: &mut W, kind: u8, reply: Reply, lent: &[u8]) -> io::Result<()> {
     if kind == b'd' {
-        return;
+        return Ok(());
     }
     match reply {
-        Reply::NotDone(why) => sheet::print_not_done(why.number(), lent),
+        Reply::NotDone(why) => sheet::print_not_done(out, why.number(), lent),
         Reply::Done { put, closing } => {
-            sheet::print_done(put, lent);
-            closed(closing);
+            sheet::print_done(out, put, lent)?;
+            closed(out, closing)
         }
     }
 }
 
-fn closed(closing: Closing) {
+fn closed<W: Write>(out: &mut W, closing: Closing) -> io::Result<()> {
     match closing {
-        Closing::Nothing => {}
+        Closing::Nothing => Ok(()),
         Closing::Answered(given) => {
-            sheet::print_text(b"    closed, answered");
-            answer(given);
+            sheet::print_text(out, b"    closed, answered")?;
+            answer(out, given)
         }
-        Closing::Refused => sheet::print_text(b"    closed, refused\n"),
-        Closing::Unknown => sheet::print_text(b"    closed, unknown\n"),
+        Closing::Refused => sheet::print_text(out, b"    closed, refused\n"),
+        Closing::Unknown => sheet::print_text(out, b"    closed, unknown\n"),
     }
 }
 
-pub(crate) fn account(session: Session) {
-    sums(b"    top", session.account.top);
-    sums(b"    second", session.account.second);
-    sums(b"    third", session.account.third);
-    sums(b"    bottom", session.account.bottom);
+pub(crate) fn account<W: Write>(out: &mut W, session: Session) -> io::Result<()> {
+    sums(out, b"    top", session.account.top)?;
+    sums(out, b"    second", session.account.second)?;
+    sums(out, b"    third", session.account.third)?;
+    sums(out, b"    bottom", session.account.bottom)
 }
 
-fn sums(name: &[u8], s: Sums) {
-    sheet::print_text(name);
+fn sums<W: Write>(out: &mut W, name: &[u8], s: Sums) -> io::Result<()> {
+    sheet::print_text(out, name)?;
     sheet::print_form(
+        out,
         b" asked # paid # short # over # refused # unknown # open # rejected #\n",
         &[
             s.asked.0,
@@ -51,12 +54,13 @@ fn sums(name: &[u8], s: Sums) {
             s.pending.0,
             s.rejected.0,
         ],
-    );
+    )
 }
 
 // A command's code, counts and serial.
-pub(crate) fn command(code: u8, n: Counts, serial: u8) {
+pub(crate) fn command<W: Write>(out: &mut W, code: u8, n: Counts, serial: u8) -> io::Result<()> {
     sheet::print_form(
+        out,
         b" reads as $ counts # # # # serial $\n",
         &[
             code as u32,
@@ -66,22 +70,22 @@ pub(crate) fn command(code: u8, n: Counts, serial: u8) {
             n.bottom,
             serial as u32,
         ],
-    );
+    )
 }
 
 // An answer's code and the values of its fields.
-pub(crate) fn answer(answer: Answer) {
-    sheet::print_form(b" $", &[vcdm_frame::code_of(answer) as u32]);
+pub(crate) fn answer<W: Write>(out: &mut W, answer: Answer) -> io::Result<()> {
+    sheet::print_form(out, b" $", &[vcdm_frame::code_of(answer) as u32])?;
     match answer {
-        Answer::Reset { error } => bytes(b" error $\n", error, 0, 0),
+        Answer::Reset { error } => bytes(out, b" error $\n", error, 0, 0),
         Answer::Status {
             error,
             disp0,
             disp1,
             places,
         } => {
-            bytes(b" error $ DISP $ $", error, disp0, disp1);
-            show_places(places);
+            bytes(out, b" error $ DISP $ $", error, disp0, disp1)?;
+            show_places(out, places)
         }
         Answer::Purged {
             error,
@@ -89,8 +93,8 @@ pub(crate) fn answer(answer: Answer) {
             cassettes,
             spare,
         } => {
-            bytes(b" error $ MISS $", error, miss, 0);
-            show_paid(cassettes, spare);
+            bytes(out, b" error $ MISS $", error, miss, 0)?;
+            show_paid(out, cassettes, spare)
         }
         Answer::Dispensed {
             error,
@@ -98,8 +102,8 @@ pub(crate) fn answer(answer: Answer) {
             cassettes,
             spare,
         } => {
-            bytes(b" error $ serial $", error, serial, 0);
-            show_paid(cassettes, spare);
+            bytes(out, b" error $ serial $", error, serial, 0)?;
+            show_paid(out, cassettes, spare)
         }
         Answer::Last {
             last,
@@ -108,25 +112,26 @@ pub(crate) fn answer(answer: Answer) {
             cassettes,
             spare,
         } => {
-            bytes(b" last $ error $ serial $", last, error, serial);
-            show_paid(cassettes, spare);
+            bytes(out, b" last $ error $ serial $", last, error, serial)?;
+            show_paid(out, cassettes, spare)
         }
     }
 }
 
-fn bytes(form: &[u8], a: u8, b: u8, c: u8) {
-    sheet::print_form(form, &[a as u32, b as u32, c as u32]);
+fn bytes<W: Write>(out: &mut W, form: &[u8], a: u8, b: u8, c: u8) -> io::Result<()> {
+    sheet::print_form(out, form, &[a as u32, b as u32, c as u32])
 }
 
-fn show_places(p: Places) {
-    show_place(b" top STAT $ TYPE $ OPAC $ LENG $", p.top);
-    show_place(b" second STAT $ TYPE $ OPAC $ LENG $", p.second);
-    show_place(b" third STAT $ TYPE $ OPAC $ LENG $", p.third);
-    show_place(b" bottom STAT $ TYPE $ OPAC $ LENG $\n", p.bottom);
+fn show_places<W: Write>(out: &mut W, p: Places) -> io::Result<()> {
+    show_place(out, b" top STAT $ TYPE $ OPAC $ LENG $", p.top)?;
+    show_place(out, b" second STAT $ TYPE $ OPAC $ LENG $", p.second)?;
+    show_place(out, b" third STAT $ TYPE $ OPAC $ LENG $", p.third)?;
+    show_place(out, b" bottom STAT $ TYPE $ OPAC $ LENG $\n", p.bottom)
 }
 
-fn show_place(form: &[u8], p: Place) {
+fn show_place<W: Write>(out: &mut W, form: &[u8], p: Place) -> io::Result<()> {
     sheet::print_form(
+        out,
         form,
         &[
             p.stat as u32,
@@ -134,16 +139,17 @@ fn show_place(form: &[u8], p: Place) {
             p.opacity as u32,
             p.length as u32,
         ],
-    );
+    )
 }
 
-fn show_paid(cassettes: Cassettes, spare: Spare) {
-    show_cassettes(cassettes);
-    show_spare(spare);
+fn show_paid<W: Write>(out: &mut W, cassettes: Cassettes, spare: Spare) -> io::Result<()> {
+    show_cassettes(out, cassettes)?;
+    show_spare(out, spare)
 }
 
-fn show_cassettes(c: Cassettes) {
+fn show_cassettes<W: Write>(out: &mut W, c: Cassettes) -> io::Result<()> {
     sheet::print_form(
+        out,
         b" top EXIT # REJECT # CASSETTE $ second EXIT # REJECT # CASSETTE $ third EXIT # REJECT # CASSETTE $ bottom EXIT # REJECT # CASSETTE $",
         &[
             c.top.exit,
@@ -159,15 +165,16 @@ fn show_cassettes(c: Cassettes) {
             c.bottom.rejects,
             c.bottom.kind as u32,
         ],
-    );
+    )
 }
 
-fn show_spare(r: Spare) {
+fn show_spare<W: Write>(out: &mut W, r: Spare) -> io::Result<()> {
     sheet::print_form(
+        out,
         b" RSV $ $ $ $ $ $ $ $ $\n",
         &[
             r.a as u32, r.b as u32, r.c as u32, r.d as u32, r.e as u32, r.f as u32, r.g as u32,
             r.h as u32, r.i as u32,
         ],
-    );
+    )
 }

@@ -3,34 +3,38 @@
 // run.
 #![tactic(auto)]
 
+use std::io;
+use std::io::{BufWriter, Write};
+
 mod wide_lines;
 
-fn main() {
-    let mut store = io::large_buffer();
-    let n = io::read_full(0, &mut store);
-    each(&store[..n]);
+fn main(rt: HostRuntime) -> io::Result<()> {
+    let mut store = [0u8; 65_536];
+    let n = files::read_all(&mut rt.stdin(), &mut store)?;
+    let mut out = BufWriter::new(rt.alloc(), rt.stdout())?;
+    each(&mut out, &store[..n])?;
+    out.flush()
 }
 
 // Every line of a sheet, in turn.
-fn each(all: &[u8]) {
+fn each<W: Write>(out: &mut W, all: &[u8]) -> io::Result<()> {
     let mut at: usize = 0;
     while at < all.len() {
         let end = sheet::line_end(all, at);
-        one(&all[at..end]);
+        one(out, &all[at..end])?;
         at = end;
     }
+    Ok(())
 }
 
 // One line, by its verb.
-fn one(line: &[u8]) {
+fn one<W: Write>(out: &mut W, line: &[u8]) -> io::Result<()> {
     let verb = sheet::letter(line, 0);
     if verb == b'w' {
-        wide_lines::write(line);
-        return;
+        return wide_lines::write(out, line);
     }
     if verb == b'r' {
-        wide_lines::read(line);
-        return;
+        return wide_lines::read(out, line);
     }
-    sheet::print_text(line);
+    sheet::print_text(out, line)
 }

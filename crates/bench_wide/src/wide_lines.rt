@@ -10,28 +10,30 @@ ghost use Rattle.std.specs.Prelude.{◌≤◌};
 
 use ccnet_wide::{Form, Judged, Lead};
 use refusals::Put;
+use std::io;
+use std::io::Write;
 
 // What each byte of a lent room holds at first.
 const UNTOUCHED: u8 = 0xA5;
 
-pub(crate) fn write(line: &[u8]) {
-    print_line(line);
+pub(crate) fn write<W: Write>(out: &mut W, line: &[u8]) -> io::Result<()> {
+    print_line(out, line)?;
     let mut lent = [UNTOUCHED; 65_536];
-    write_in(line, &mut lent);
+    write_in(out, line, &mut lent)
 }
 
-fn print_line(line: &[u8]) {
-    sheet::print_text(b"  ");
-    sheet::print_text(line);
+fn print_line<W: Write>(out: &mut W, line: &[u8]) -> io::Result<()> {
+    sheet::print_text(out, b"  ")?;
+    sheet::print_text(out, line)
 }
 
 // Writes what the line gives to a room of the size that it gives.
-fn write_in(line: &[u8], lent: &mut [u8]) {
+fn write_in<W: Write>(out: &mut W, line: &[u8], lent: &mut [u8]) -> io::Result<()> {
     let end = sheet::at_most(sheet::number(line, 3) as usize, lent);
     let fill = sheet::byte(line, 12);
     match put_frame(line, fill, &mut lent[0..end]) {
-        Put::Bytes(n) => print_laid(n, fill, lent),
-        Put::Refused(why) => print_refused(why.number(), lent),
+        Put::Bytes(n) => print_laid(out, n, fill, lent),
+        Put::Refused(why) => print_refused(out, why.number(), lent),
     }
 }
 
@@ -61,37 +63,38 @@ fn lead_of(letter: u8, first: u8, second: u8) -> Lead {
 }
 
 // The frame's first eight bytes and its last two, and whether every other byte of the room is what it was.
-fn print_laid(n: usize, fill: u8, lent: &[u8]) {
-    sheet::print_text(b"    length ");
-    sheet::print_number(n);
-    sheet::print_text(b":");
+fn print_laid<W: Write>(out: &mut W, n: usize, fill: u8, lent: &[u8]) -> io::Result<()> {
+    sheet::print_text(out, b"    length ")?;
+    sheet::print_number(out, n)?;
+    sheet::print_text(out, b":")?;
     let end = sheet::at_most(n, lent);
     let front = sheet::at_most(8, lent);
-    sheet::print_bytes(&lent[0..front]);
-    sheet::print_text(b" ..");
-    print_last_two(&lent[0..end]);
-    sheet::print_text(b", rest ");
-    print_kept(&lent[end..]);
-    print_read(&lent[0..end], fill);
+    sheet::print_bytes(out, &lent[0..front])?;
+    sheet::print_text(out, b" ..")?;
+    print_last_two(out, &lent[0..end])?;
+    sheet::print_text(out, b", rest ")?;
+    print_kept(out, &lent[end..])?;
+    print_read(out, &lent[0..end], fill)
 }
 
-fn print_last_two(s: &[u8]) {
+fn print_last_two<W: Write>(out: &mut W, s: &[u8]) -> io::Result<()> {
     let n = s.len();
     if 1 < n {
-        sheet::print_bytes(&[s[n - 2], s[n - 1]]);
+        sheet::print_bytes(out, &[s[n - 2], s[n - 1]])?;
     }
+    Ok(())
 }
 
-fn print_refused(number: u8, lent: &[u8]) {
-    sheet::print_form(b"    refused #, room ", &[number as u32]);
-    print_kept(lent);
+fn print_refused<W: Write>(out: &mut W, number: u8, lent: &[u8]) -> io::Result<()> {
+    sheet::print_form(out, b"    refused #, room ", &[number as u32])?;
+    print_kept(out, lent)
 }
 
-fn print_kept(rest: &[u8]) {
+fn print_kept<W: Write>(out: &mut W, rest: &[u8]) -> io::Result<()> {
     if count_of(UNTOUCHED, rest) == rest.len() {
-        sheet::print_text(b"kept\n");
+        sheet::print_text(out, b"kept\n")
     } else {
-        sheet::print_text(b"CHANGED\n");
+        sheet::print_text(out, b"CHANGED\n")
     }
 }
 
@@ -113,70 +116,74 @@ fn one_if(same: bool) -> usize
 }
 
 // The bytes, read in each of the three forms and as a narrow frame.
-fn print_read(s: &[u8], fill: u8) {
-    sheet::print_text(b"    code:");
-    print_form_read(Form::AfterCode, s, fill);
-    sheet::print_text(b"; subcommand:");
-    print_form_read(Form::AfterSubcommand, s, fill);
-    sheet::print_text(b"; once:");
-    print_form_read(Form::AtOnce, s, fill);
-    sheet::print_text(b"; narrow:");
-    print_narrow(s);
-    sheet::print_text(b"\n");
+fn print_read<W: Write>(out: &mut W, s: &[u8], fill: u8) -> io::Result<()> {
+    sheet::print_text(out, b"    code:")?;
+    print_form_read(out, Form::AfterCode, s, fill)?;
+    sheet::print_text(out, b"; subcommand:")?;
+    print_form_read(out, Form::AfterSubcommand, s, fill)?;
+    sheet::print_text(out, b"; once:")?;
+    print_form_read(out, Form::AtOnce, s, fill)?;
+    sheet::print_text(out, b"; narrow:")?;
+    print_narrow(out, s)?;
+    sheet::print_text(out, b"\n")
 }
 
-fn print_form_read(form: Form, s: &[u8], fill: u8) {
-    print_judged(ccnet_wide::judge(form, s));
-    print_data(ccnet_wide::data_of(form, s), fill);
+fn print_form_read<W: Write>(out: &mut W, form: Form, s: &[u8], fill: u8) -> io::Result<()> {
+    print_judged(out, ccnet_wide::judge(form, s))?;
+    print_data(out, ccnet_wide::data_of(form, s), fill)
 }
 
-fn print_judged(judged: Judged) {
+fn print_judged<W: Write>(out: &mut W, judged: Judged) -> io::Result<()> {
     match judged {
         Judged::Good { address, lead } => {
-            sheet::print_form(b" address $", &[address as u32]);
-            print_lead(lead);
+            sheet::print_form(out, b" address $", &[address as u32])?;
+            print_lead(out, lead)
         }
-        Judged::Refused(why) => sheet::print_form(b" refused #", &[why.number() as u32]),
+        Judged::Refused(why) => sheet::print_form(out, b" refused #", &[why.number() as u32]),
     }
 }
 
-fn print_lead(lead: Lead) {
+fn print_lead<W: Write>(out: &mut W, lead: Lead) -> io::Result<()> {
     match lead {
-        Lead::Code(code) => sheet::print_form(b" code $", &[code as u32]),
+        Lead::Code(code) => sheet::print_form(out, b" code $", &[code as u32]),
         Lead::Subcommand { code, subcommand } => {
-            sheet::print_form(b" code $ subcommand $", &[code as u32, subcommand as u32])
+            sheet::print_form(
+                out,
+                b" code $ subcommand $",
+                &[code as u32, subcommand as u32],
+            )
         }
-        Lead::Nothing => sheet::print_text(b" no code"),
+        Lead::Nothing => sheet::print_text(out, b" no code"),
     }
 }
 
-fn print_data(part: &[u8], fill: u8) {
-    sheet::print_text(b" data ");
-    sheet::print_number(part.len());
-    sheet::print_text(b" fill ");
-    sheet::print_number(count_of(fill, part));
+fn print_data<W: Write>(out: &mut W, part: &[u8], fill: u8) -> io::Result<()> {
+    sheet::print_text(out, b" data ")?;
+    sheet::print_number(out, part.len())?;
+    sheet::print_text(out, b" fill ")?;
+    sheet::print_number(out, count_of(fill, part))
 }
 
-fn print_narrow(s: &[u8]) {
+fn print_narrow<W: Write>(out: &mut W, s: &[u8]) -> io::Result<()> {
     match ccnet_frame::judge(s) {
         ccnet_frame::Judged::Good { address } => {
-            sheet::print_form(b" address $", &[address as u32])
+            sheet::print_form(out, b" address $", &[address as u32])
         }
         ccnet_frame::Judged::Refused(why) => {
-            sheet::print_form(b" refused #", &[why.number() as u32])
+            sheet::print_form(out, b" refused #", &[why.number() as u32])
         }
     }
 }
 
-pub(crate) fn read(line: &[u8]) {
-    print_line(line);
+pub(crate) fn read<W: Write>(out: &mut W, line: &[u8]) -> io::Result<()> {
+    print_line(out, line)?;
     let fill = sheet::byte(line, 16);
     let mut made = [fill; 65_536];
     let end = sheet::at_most(sheet::number(line, 3) as usize, &made);
-    read_in(line, fill, &mut made[0..end]);
+    read_in(out, line, fill, &mut made[0..end])
 }
 
-fn read_in(line: &[u8], fill: u8, made: &mut [u8]) {
+fn read_in<W: Write>(out: &mut W, line: &[u8], fill: u8, made: &mut [u8]) -> io::Result<()> {
     put_opening(line, made);
     put_length(
         length_place(sheet::letter(line, 1)),
@@ -184,7 +191,7 @@ fn read_in(line: &[u8], fill: u8, made: &mut [u8]) {
         made,
     );
     put_check(sheet::byte(line, 18), made);
-    print_read(made, fill);
+    print_read(out, made, fill)
 }
 
 // 02h, address and length byte, or what the line gives in their place; then the two lead bytes, of which the true length covers those that its form does not have.

@@ -4,61 +4,87 @@
 
 mod telling;
 
-use libc::{STDERR_FILENO, STDIN_FILENO};
+use std::io::{Read, Write};
+use telling::Untold;
 
-fn main() {
-    let from = number(1);
-    let most = number(2);
-    if os::arg_count() < 4 {
-        let mut piece = io::large_buffer();
-        tell_from(STDIN_FILENO, b"standard input", &mut piece, from, most);
+// The most bytes that are read at once.
+const PIECE: usize = 65_536;
+
+// The most bytes of a path.
+const PATH: usize = 4_096;
+
+fn main(rt: HostRuntime) {
+    let from = number(rt, 1);
+    let most = number(rt, 2);
+    let count = files::arg_count(&rt);
+    if count < 4 {
+        let mut piece = [0u8; PIECE];
+        tell_from(
+            rt,
+            &mut rt.stdin(),
+            b"standard input",
+            &mut piece,
+            from,
+            most,
+        );
         return;
     }
-    each(os::arg_count(), from, most);
+    each(rt, count, from, most);
 }
 
 // The number that an argument says.
-fn number(i: usize) -> u32 {
-    let mut word = io::buffer();
-    let n = os::arg(i, &mut word);
-    sheet::number(&word[..n], 0)
+fn number(rt: HostRuntime, i: usize) -> u32 {
+    let mut word = [0u8; PATH];
+    match files::arg(&rt, i, &mut word) {
+        Ok(n) => sheet::number(&word[..n], 0),
+        Err(_) => 0,
+    }
 }
 
 // Every file.
-fn each(count: usize, from: u32, most: u32) {
-    let mut i: usize = 3;
-    while i < count {
-        named(i, from, most);
-        i += 1;
+fn each(rt: HostRuntime, count: usize, from: u32, most: u32) {
+    for i in 3..count {
+        named(rt, i, from, most);
     }
 }
 
 // The file that an argument names.
-fn named(i: usize, from: u32, most: u32) {
-    let mut path = io::buffer();
-    let n = os::arg(i, &mut path);
-    if os::errno() != 0 {
-        os::fail(&path);
-        return;
+fn named(rt: HostRuntime, i: usize, from: u32, most: u32) {
+    let mut path = [0u8; PATH];
+    match files::arg(&rt, i, &mut path) {
+        Ok(n) => at(rt, &path[..n], from, most),
+        Err(why) => files::fail(&mut rt.stderr(), &path, why),
     }
-    if n == 0 {
-        io::write_all(STDERR_FILENO, b"an empty argument: no path\n");
-        return;
-    }
-    let fd = os::open_read(&path[..n]);
-    if fd < 0 {
-        os::fail(&path[..n]);
-        return;
-    }
-    let mut piece = io::large_buffer();
-    tell_from(fd, &path[..n], &mut piece, from, most);
-    libc::close(fd);
 }
 
-// The recording that can be read from a descriptor, in pieces that are read into a lent buffer.
-fn tell_from(fd: i32, name: &[u8], piece: &mut [u8], from: u32, most: u32) {
-    if telling::tell(fd, piece, from as u64, most as u64) {
+// The file of that path.
+fn at(rt: HostRuntime, path: &[u8], from: u32, most: u32) {
+    if path.len() == 0 {
+        let _ = Write::write_all(&mut rt.stderr(), b"an empty argument: no path\n");
         return;
     }
-    os::fail(name);
+    match files::open_read(&rt, path) {
+        Ok(file) => {
+            let mut input = file;
+            let mut piece = [0u8; PIECE];
+            tell_from(rt, &mut input, path, &mut piece, from, most);
+        }
+        Err(why) => files::fail(&mut rt.stderr(), path, why),
+    }
+}
+
+// The recording that can be read, in pieces that are read into a lent buffer.
+fn tell_from<R: Read>(
+    rt: HostRuntime,
+    input: &mut R,
+    name: &[u8],
+    piece: &mut [u8],
+    from: u32,
+    most: u32,
+) {
+    match telling::tell(input, &mut rt.stdout(), piece, from as u64, most as u64) {
+        Ok(()) => {}
+        Err(Untold::Unread(why)) => files::fail(&mut rt.stderr(), name, why),
+        Err(Untold::Unwritten(why)) => files::fail(&mut rt.stderr(), b"standard output", why),
+    }
 }

@@ -6,6 +6,8 @@ use grading_rules::Replaying;
 use recording::{Outcome, Place, Reader, Record};
 use spoken::lines::Run;
 use spoken::{Live, lines};
+use std::io;
+use std::io::{Read, Write};
 use words::Told;
 
 // The bytes of the record that is begun: no record has more than 16.
@@ -52,24 +54,43 @@ fn fresh(most: u64) -> Telling {
     }
 }
 
-// Tells the recording that can be read from a descriptor: the records from an offset on, so many at most, and what the whole recording leaves. Answers whether it could be read.
-pub(crate) fn tell(fd: i32, piece: &mut [u8], from: u64, most: u64) -> bool {
+// Why a recording is not told to its end: it could not be read, or what is told could not be written.
+#[derive(Clone, Copy)]
+pub(crate) enum Untold {
+    Unread(io::Error),
+    Unwritten(io::Error),
+}
+
+impl From<io::Error> for Untold {
+    fn from(why: io::Error) -> Untold {
+        Untold::Unwritten(why)
+    }
+}
+
+// Tells the recording that can be read: the records from an offset on, so many at most, and what the whole recording leaves.
+pub(crate) fn tell<R: Read, W: Write>(
+    input: &mut R,
+    out: &mut W,
+    piece: &mut [u8],
+    from: u64,
+    most: u64,
+) -> Result<(), Untold> {
     let mut telling = fresh(most);
-    let mut got: isize = 0;
     let mut turns: u64 = Reader::MOST + 1;
     while 0 < turns {
-        got = libc::read(fd, piece);
-        let n = io::count(got, piece);
-        let next = through(telling, &piece[0..n], from);
+        let n = match input.read(piece) {
+            Ok(n) => n,
+            Err(why) => {
+                cut(out, telling)?;
+                return Err(Untold::Unread(why));
+            }
+        };
+        let next = through(out, telling, &piece[0..n], from)?;
         telling = next;
         turns = left(turns, n, is_bad(telling));
     }
-    if got < 0 {
-        cut(telling);
-        return false;
-    }
-    finish(telling);
-    true
+    finish(out, telling)?;
+    Ok(())
 }
 
 // How many pieces may follow: none where nothing came, or a fault has shown.
@@ -97,22 +118,25 @@ fn is_bad(telling: Telling) -> bool {
 }
 
 // Every byte of a piece, up to a fault.
-fn through(telling: Telling, piece: &[u8], from: u64) -> Telling {
+fn through<W: Write>(
+    out: &mut W,
+    telling: Telling,
+    piece: &[u8],
+    from: u64,
+) -> io::Result<Telling> {
     let mut next = telling;
-    let mut i: usize = 0;
-    while i < piece.len() {
-        let following = byte(next, piece[i], from);
+    for b in piece {
+        let following = byte(out, next, *b, from)?;
         next = following;
         if is_bad(next) {
-            return next;
+            return Ok(next);
         }
-        i += 1;
     }
-    next
+    Ok(next)
 }
 
 // One byte. It stands behind what was entered and what is begun.
-fn byte(telling: Telling, b: u8, from: u64) -> Telling {
+fn byte<W: Write>(out: &mut W, telling: Telling, b: u8, from: u64) -> io::Result<Telling> {
     let reader = telling.reader;
     let begun = telling.begun;
     let so_far = telling.so_far;
@@ -120,11 +144,11 @@ fn byte(telling: Telling, b: u8, from: u64) -> Telling {
     let step = reader.taken(at, b);
     let next = step.reader;
     let outcome = step.outcome;
-    Telling {
+    Ok(Telling {
         reader: next,
         begun: bytes_after(outcome, begun, b),
-        so_far: told_after(outcome, so_far, from),
-    }
+        so_far: told_after(out, outcome, so_far, from)?,
+    })
 }
 
 // The bytes of the record that is begun, after what a byte brought.
@@ -146,15 +170,20 @@ fn longer(begun: Begun, b: u8) -> Begun {
 }
 
 // And what is told.
-fn told_after(outcome: Outcome, so_far: SoFar, from: u64) -> SoFar {
+fn told_after<W: Write>(
+    out: &mut W,
+    outcome: Outcome,
+    so_far: SoFar,
+    from: u64,
+) -> io::Result<SoFar> {
     match outcome {
-        Outcome::Whole(x) => record(so_far, x, from),
-        _ => so_far,
+        Outcome::Whole(x) => record(out, so_far, x, from),
+        _ => Ok(so_far),
     }
 }
 
 // One record.
-fn record(so_far: SoFar, x: Record, from: u64) -> SoFar {
+fn record<W: Write>(out: &mut W, so_far: SoFar, x: Record, from: u64) -> io::Result<SoFar> {
     let live = so_far.live;
     let run = so_far.run;
     let offset = live.written as u64;
@@ -164,12 +193,12 @@ fn record(so_far: SoFar, x: Record, from: u64) -> SoFar {
     let next = step.live;
     let reply = step.reply;
     let told = step.told;
-    SoFar {
+    Ok(SoFar {
         live: next,
         ms: later(so_far.ms, x, reply),
         left: fewer(so_far.left, wanted),
-        run: shown(wanted, run, x, told, &line, so_far.ms, offset),
-    }
+        run: shown(out, wanted, run, x, told, &line, so_far.ms, offset)?,
+    })
 }
 
 // Is a record to be told: does it stand far enough, and are some left?
@@ -209,24 +238,33 @@ fn plus(ms: u64, n: u32) -> u64 {
 }
 
 // A record with what was made of it, if it is to be told.
-fn shown(wanted: bool, run: Run, x: Record, told: Told, line: &[u8], ms: u64, offset: u64) -> Run {
+fn shown<W: Write>(
+    out: &mut W,
+    wanted: bool,
+    run: Run,
+    x: Record,
+    told: Told,
+    line: &[u8],
+    ms: u64,
+    offset: u64,
+) -> io::Result<Run> {
     if !wanted {
-        return run;
+        return Ok(run);
     }
     let passing = told.passing;
     let next = lines::begun(x, passing, told.end);
-    lines::written(run, next, x, ms, offset, line, told.end)
+    lines::written(out, run, next, x, ms, offset, line, told.end)
 }
 
 // A read has failed: the line at hand ends, and nothing is said of the whole, since its rest is not known.
-fn cut(telling: Telling) {
+fn cut<W: Write>(out: &mut W, telling: Telling) -> io::Result<()> {
     let so_far = telling.so_far;
     let run = so_far.run;
-    lines::end(run);
+    lines::end(out, run)
 }
 
 // The recording has ended, or a fault has shown.
-fn finish(telling: Telling) {
+fn finish<W: Write>(out: &mut W, telling: Telling) -> io::Result<()> {
     let reader = telling.reader;
     let begun = telling.begun;
     let so_far = telling.so_far;
@@ -234,8 +272,9 @@ fn finish(telling: Telling) {
     let desk = live.desk;
     let run = so_far.run;
     let bytes = begun.bytes;
-    lines::end(run);
+    lines::end(out, run)?;
     end(
+        out,
         Replaying {
             desk,
             reader,
@@ -243,22 +282,22 @@ fn finish(telling: Telling) {
         },
         &bytes,
         begun.held as usize,
-    );
+    )
 }
 
 // What the replay finds. No recording leaves one that is not counted, so none of the three tests holds: the reader gets one offset after the other and stops at the limit, and a record that is entered adds
 // one to the records, at most one to the declined, and at least one byte. One that is not entered adds nothing.
-fn end(replay: Replaying, bytes: &[u8], held: usize) {
+fn end<W: Write>(out: &mut W, replay: Replaying, bytes: &[u8], held: usize) -> io::Result<()> {
     let reader = replay.reader;
     let desk = replay.desk;
     if Reader::MOST < reader.start {
-        return;
+        return Ok(());
     }
     if desk.records < desk.declined {
-        return;
+        return Ok(());
     }
     if replay.fed < desk.records {
-        return;
+        return Ok(());
     }
-    spoken::ending(grading::ended(replay), bytes, held);
+    spoken::ending(out, grading::ended(replay), bytes, held)
 }

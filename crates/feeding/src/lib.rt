@@ -1,4 +1,4 @@
-// A recording that is read from a descriptor and replayed, in pieces of at most 64 KiB.
+// A recording that is read and replayed, in pieces of at most 64 KiB.
 #![tactic(auto)]
 
 ghost use Rattle.grading_rules.specs.Promises.{Counted};
@@ -8,59 +8,65 @@ mod progress;
 use grading_rules::{Findings, Replaying};
 use progress::Progress;
 use recording::{Place, Reader};
+use std::io;
+use std::io::Read;
 
-// What was fed, up to the end or to a read that failed.
+// What was fed, up to the end or to a read that failed, and then why.
 #[derive(Clone, Copy)]
 pub struct Fed {
-    pub failed: bool,
+    pub failed: Option<io::Error>,
     pub replay: Replaying,
 }
 
 // What is found, unless a read failed: then it is what the bytes before leave.
 #[derive(Clone, Copy)]
 pub struct Replayed {
-    pub failed: bool,
+    pub failed: Option<io::Error>,
     pub found: Findings,
 }
 
 // Reads into a lent buffer until the recording ends, a fault shows, or it is over the limit. It ends, whatever is read: each turn feeds at least one byte, so that there are no more
 // turns than a recording may have bytes, and one for the byte past the limit.
-pub fn fed_from(fd: i32, piece: &mut [u8]) -> Fed
+pub fn fed_from<R: Read>(rt: HostRuntime, input: &mut R, piece: &mut [u8]) -> Fed
     ensures { Counted result.replay }
 {
     let mut replay = Replaying::fresh();
     let mut turns: u64 = Reader::MOST + 1;
-    let mut progress = progress::start();
+    let mut progress = progress::start(rt);
     while 0 < turns {
-        let got = libc::read(fd, piece);
-        let n = io::count(got, piece);
+        let n = match input.read(piece) {
+            Ok(n) => n,
+            Err(why) => {
+                return left(rt, replay, progress, Some(why));
+            }
+        };
         if n == 0 {
-            return left(replay, progress, got < 0);
+            return left(rt, replay, progress, None);
         }
         let next = grading::feed(replay, &piece[0..n]);
         replay = next;
         if is_bad(replay) {
-            return left(replay, progress, false);
+            return left(rt, replay, progress, None);
         }
-        let following = progress::reached(progress, replay.fed);
+        let following = progress::reached(rt, progress, replay.fed);
         progress = following;
         turns -= 1;
     }
-    left(replay, progress, false)
+    left(rt, replay, progress, None)
 }
 
 // What the pieces leave, where nothing more is read.
-fn left(replay: Replaying, progress: Progress, failed: bool) -> Fed
+fn left(rt: HostRuntime, replay: Replaying, progress: Progress, failed: Option<io::Error>) -> Fed
     requires { Counted replay }
     ensures { Counted result.replay }
 {
-    progress::stop(progress);
+    progress::stop(rt, progress);
     Fed { failed, replay }
 }
 
 // The same, and then the recording has ended.
-pub fn replay_from(fd: i32, piece: &mut [u8]) -> Replayed {
-    let fed = fed_from(fd, piece);
+pub fn replay_from<R: Read>(rt: HostRuntime, input: &mut R, piece: &mut [u8]) -> Replayed {
+    let fed = fed_from(rt, input, piece);
     let replay = fed.replay;
     Replayed {
         failed: fed.failed,

@@ -1,51 +1,64 @@
 // How far a long recording is: a line on standard error where that is a terminal, and nothing otherwise. It begins after 2 s and is written over at most once a second. The
 // clock has whole seconds: 3 of its turns are more than 2 s, and 2 of them more than 1.
-use libc::STDERR_FILENO;
 use refusals::Put;
+use std::fs::{File, Metadata};
+use std::io::{IsTerminal, Write};
+use std::os::unix::fs::FileTypeExt;
+use std::time::SystemTime;
+use std::{fs, io};
 
-// The commands of this repository read the program's standard error themselves, and lend their own as this descriptor.
-const LENT_FILENO: i32 = 4;
+// The commands of this repository read the program's standard error themselves, and lend their own as the fourth descriptor, which is opened by this name.
+const LENT: &str = "/dev/fd/4";
 
-#[derive(Clone, Copy)]
-pub(crate) struct Progress {
-    // The terminal, or -1 where there is none.
-    pub terminal: i32,
-    // Has a line been written?
-    pub begun: bool,
-    // The second in which the last one was written, or in which the reading began.
-    pub since: u64,
+// The terminal, where there is one.
+#[derive(Drop)]
+enum Terminal {
+    None,
+    Error,
+    Lent(File),
 }
 
-pub(crate) fn start() -> Progress {
+#[derive(Drop)]
+pub(crate) struct Progress {
+    terminal: Terminal,
+    // Has a line been written?
+    begun: bool,
+    // The second in which the last one was written, or in which the reading began.
+    since: u64,
+}
+
+pub(crate) fn start(rt: HostRuntime) -> Progress {
     Progress {
-        terminal: terminal(),
+        terminal: found(rt),
         begun: false,
-        since: seconds(),
+        since: seconds(rt),
     }
 }
 
 // After so many bytes.
-pub(crate) fn reached(progress: Progress, bytes: u32) -> Progress {
-    if progress.terminal < 0 {
+pub(crate) fn reached(rt: HostRuntime, progress: Progress, bytes: u32) -> Progress {
+    if let Terminal::None = progress.terminal {
         return progress;
     }
-    let now = seconds();
-    let turns = std::num::wrapping_sub_u64(now, progress.since);
+    let now = seconds(rt);
+    let turns = now.wrapping_sub(progress.since);
     if turns < wait(progress.begun) {
         return progress;
     }
-    write_line(progress.terminal, bytes);
+    let mut terminal = progress.terminal;
+    write_line(rt, &mut terminal, bytes);
     Progress {
-        terminal: progress.terminal,
+        terminal,
         begun: true,
         since: now,
     }
 }
 
 // The line that was begun ends.
-pub(crate) fn stop(progress: Progress) {
+pub(crate) fn stop(rt: HostRuntime, progress: Progress) {
     if progress.begun {
-        io::write_all(progress.terminal, b"\n");
+        let mut terminal = progress.terminal;
+        write_all(rt, &mut terminal, b"\n");
     }
 }
 
@@ -57,37 +70,61 @@ fn wait(begun: bool) -> u64 {
     3
 }
 
-// The terminal that standard error is.
-fn terminal() -> i32 {
-    if libc::isatty(STDERR_FILENO) == 1 {
-        return STDERR_FILENO;
+// The terminal that standard error is, or the lent descriptor.
+fn found(rt: HostRuntime) -> Terminal {
+    if rt.stderr().is_terminal() {
+        return Terminal::Error;
     }
-    if libc::isatty(LENT_FILENO) == 1 {
-        return LENT_FILENO;
+    match lent(rt) {
+        Ok(file) => {
+            if file.is_terminal() {
+                return Terminal::Lent(file);
+            }
+            Terminal::None
+        }
+        Err(_) => Terminal::None,
     }
-    -1
 }
 
-fn write_line(terminal: i32, bytes: u32) {
+// The lent descriptor. It is opened only where it is what a terminal is: a pipe would be waited for.
+fn lent(rt: HostRuntime) -> io::Result<File> {
+    let what: Metadata = fs::metadata(&rt, LENT)?;
+    if what.file_type().is_char_device() {
+        return File::options().write(true).open(&rt, LENT);
+    }
+    Err(io::Error::from(io::ErrorKind::NotFound))
+}
+
+fn write_line(rt: HostRuntime, terminal: &mut Terminal, bytes: u32) {
     let mut room = [0u8; 10];
     match numbers::write_decimal(bytes as u64, &mut room) {
         Put::Bytes(n) => {
             if n <= room.len() {
-                io::write_all(terminal, b"\r");
-                io::write_all(terminal, &room[0..n]);
-                io::write_all(terminal, b" bytes so far");
+                write_all(rt, terminal, b"\r");
+                write_all(rt, terminal, &room[0..n]);
+                write_all(rt, terminal, b" bytes so far");
             }
         }
         Put::Refused(_) => {}
     }
 }
 
-// The clock's seconds, or 0 where it has none.
-fn seconds() -> u64 {
-    let mut t: i64 = 0;
-    above_zero(libc::time(&mut t))
+// Nothing is said of a write that fails.
+fn write_all(rt: HostRuntime, terminal: &mut Terminal, bytes: &[u8]) {
+    let _ = match terminal {
+        Terminal::None => Ok(()),
+        Terminal::Error => Write::write_all(&mut rt.stderr(), bytes),
+        Terminal::Lent(file) => file.write_all(bytes),
+    };
 }
 
-fn above_zero(now: i64) -> u64 {
-    if now > 0 { now as u64 } else { 0 }
+// The clock's seconds, or 0 where it has none.
+fn seconds(rt: HostRuntime) -> u64 {
+    match SystemTime::now(&rt) {
+        Ok(now) => match now.duration_since(SystemTime::UNIX_EPOCH) {
+            Ok(since) => since.as_secs(),
+            Err(_) => 0,
+        },
+        Err(_) => 0,
+    }
 }

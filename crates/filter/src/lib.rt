@@ -1,9 +1,10 @@
-// What the filters at the desk share: records on standard input, one at a time, and the line that says which bytes are to be sent.
+// What the filters at the desk share: records on their input, one at a time, and the line that says which bytes are to be sent.
 #![tactic(auto)]
 
-use libc::STDIN_FILENO;
 use recording::{Fault, Outcome, Reader, Record, Verdict};
 use sheet::{print_bytes, print_text};
+use std::io;
+use std::io::{Read, Write};
 
 // More turns than there can be bytes.
 pub const TURNS: u64 = 18_446_744_073_709_551_615;
@@ -18,14 +19,16 @@ pub enum Event {
 }
 
 // The next record. A byte is read at a time: the lines bring no more than some thousand in a second.
-pub fn next() -> Event {
+pub fn next<R: Read>(input: &mut R) -> Event {
     let mut reader = Reader::fresh();
     let mut turns: u64 = TURNS;
     while 0 < turns {
         let mut read = [0u8; 1];
-        let got = libc::read(STDIN_FILENO, &mut read);
+        let Ok(got) = input.read(&mut read) else {
+            return no_byte(true, reader);
+        };
         if got < 1 {
-            return no_byte(got < 0, reader);
+            return no_byte(false, reader);
         }
         let step = reader.byte(0, read[0]);
         let outcome = step.outcome;
@@ -57,11 +60,12 @@ fn no_byte(failed: bool, reader: Reader) -> Event {
 }
 
 // The first so many bytes of a room behind some words, as "send validator 02 03 06 33 DA 81"; nothing where there are none.
-pub fn send(words: &[u8], put: usize, room: &[u8]) {
+pub fn send<W: Write>(out: &mut W, words: &[u8], put: usize, room: &[u8]) -> io::Result<()> {
     if 0 < put {
         let end = sheet::at_most(put, room);
-        print_text(words);
-        print_bytes(&room[0..end]);
-        print_text(b"\n");
+        print_text(out, words)?;
+        print_bytes(out, &room[0..end])?;
+        print_text(out, b"\n")?;
     }
+    Ok(())
 }

@@ -6,9 +6,10 @@
 //     t45h,10,10,30h,30h,0     the answer's fields, to the code that it waits for (docs/PRETEND.md)
 #![tactic(auto)]
 
-use libc::STDIN_FILENO;
 use pretend_rules::Device;
 use sheet_device::way;
+use std::io;
+use std::io::{Read, Write};
 
 // The longest line is that of a payout from both cassettes. As a word of a run it has the letter of its end before it.
 const LINE: usize = 64;
@@ -25,7 +26,9 @@ struct Unit {
     going: bool,
 }
 
-fn main() {
+fn main(rt: HostRuntime) -> io::Result<()> {
+    let mut input = rt.stdin();
+    let mut out = rt.stdout();
     let mut now = Unit {
         device: Device::fresh(),
         line: [b'd'; LINE],
@@ -34,30 +37,30 @@ fn main() {
     };
     let mut turns: u64 = TURNS;
     while 0 < turns {
-        let next = turn(now);
+        let next = turn(&mut input, &mut out, now)?;
         now = next;
         if !now.going {
-            return;
+            return Ok(());
         }
         turns -= 1;
     }
+    Ok(())
 }
 
 // One byte of a line.
-fn turn(unit: Unit) -> Unit {
+fn turn<R: Read, W: Write>(input: &mut R, out: &mut W, unit: Unit) -> io::Result<Unit> {
     let mut read = [0u8; 1];
-    let got = libc::read(STDIN_FILENO, &mut read);
-    let n = io::count(got, &read);
+    let n = input.read(&mut read)?;
     if n == 0 {
         let mut now = unit;
         now.going = false;
-        return now;
+        return Ok(now);
     }
     let b = read[0];
     if b == b'\n' {
-        return said(unit);
+        return said(out, unit);
     }
-    kept(unit, b)
+    Ok(kept(unit, b))
 }
 
 // A byte behind those before it; a line that is too long is cut.
@@ -72,22 +75,22 @@ fn kept(unit: Unit, b: u8) -> Unit {
 }
 
 // A line is whole: the device makes of it what it makes of a word of a run.
-fn said(unit: Unit) -> Unit {
+fn said<W: Write>(out: &mut W, unit: Unit) -> io::Result<Unit> {
     let device = unit.device;
     let line = unit.line;
-    let next = event(device, &line, unit.size);
-    sheet::print_text(b"done\n");
+    let next = event(out, device, &line, unit.size)?;
+    sheet::print_text(out, b"done\n")?;
     let mut now = unit;
     now.device = next;
     now.size = 1;
-    now
+    Ok(now)
 }
 
 // Nothing is on its way to the device, and what it puts is printed.
-fn event(device: Device, line: &[u8], size: usize) -> Device {
+fn event<W: Write>(out: &mut W, device: Device, line: &[u8], size: usize) -> io::Result<Device> {
     let n = sheet::at_most(size, line);
     let mut down = [0usize; way::LENGTH];
     let mut up = [0usize; way::LENGTH];
     up[way::ROOM] = Device::ROOM;
-    sheet_device::moved(&line[0..n], device, &mut down, &mut up)
+    sheet_device::moved(out, &line[0..n], device, &mut down, &mut up)
 }

@@ -1,8 +1,8 @@
 // The records of a line, written to standard output.
-use libc::STDOUT_FILENO;
 use recording::Record;
 use refusals::Put;
 use spelling::{Spelled, is_sentence};
+use std::io::Write;
 use text::{Said, hear};
 
 // What a line leaves: the text goes on, or it has ended, or the line is not understood. It ends as well where a write fails: what follows would stand in the recording with a gap before it.
@@ -23,7 +23,7 @@ impl Course {
 }
 
 // The records of a line. The text ends at the requests, at the report and behind a fault.
-pub(crate) fn record(line: &[u8]) -> Course {
+pub(crate) fn record(rt: HostRuntime, line: &[u8]) -> Course {
     if is_sentence(line, Said::REQUESTS) {
         return Course::Ended;
     }
@@ -32,38 +32,35 @@ pub(crate) fn record(line: &[u8]) -> Course {
     }
     let bad = hear(line, 0, Said::BAD);
     if bad.is {
-        fault(line, bad.end);
+        fault(rt, line, bad.end);
         return Course::Ended;
     }
-    records(line)
+    records(rt, line)
 }
 
 // The bytes of a fault, as they are, from a place on: "bad 22 at 7: 01".
-fn fault(line: &[u8], from: usize) {
+fn fault(rt: HostRuntime, line: &[u8], from: usize) {
     let mut at = from;
-    let mut left = line.len();
-    while 0 < left {
+    for _ in 0..line.len() {
         let heard = hear(line, at, Said::BYTE);
         if !heard.is {
             return;
         }
         let values = heard.values;
-        if !print(&[(values[0] % 256) as u8], 1) {
+        if !print(rt, &[(values[0] % 256) as u8], 1) {
             return;
         }
         at = heard.end;
-        left -= 1;
     }
 }
 
 // Every record of a line: not more than it has bytes.
-fn records(line: &[u8]) -> Course {
+fn records(rt: HostRuntime, line: &[u8]) -> Course {
     let mut spelled = spelling::first(line);
-    let mut left = line.len();
-    while 0 < left {
+    for _ in 0..line.len() {
         match spelled {
             Spelled::Says { record, times, end } => {
-                let course = repeated(record, times);
+                let course = repeated(rt, record, times);
                 if !course.goes_on() {
                     return course;
                 }
@@ -77,30 +74,27 @@ fn records(line: &[u8]) -> Course {
                 return Course::Unclear;
             }
         }
-        left -= 1;
     }
     Course::On
 }
 
 // A record, so many times.
-fn repeated(x: Record, times: u32) -> Course {
-    let mut left = times;
-    while 0 < left {
-        let course = written(x);
+fn repeated(rt: HostRuntime, x: Record, times: u32) -> Course {
+    for _ in 0..times {
+        let course = written(rt, x);
         if !course.goes_on() {
             return course;
         }
-        left -= 1;
     }
     Course::On
 }
 
 // A record's bytes; a code that is not in its kind's list is none.
-fn written(x: Record) -> Course {
+fn written(rt: HostRuntime, x: Record) -> Course {
     let mut room = [0u8; 16];
     match record_writer::write(x, &mut room) {
         Put::Bytes(n) => {
-            if print(&room, n) {
+            if print(rt, &room, n) {
                 return Course::On;
             }
             Course::Ended
@@ -110,10 +104,10 @@ fn written(x: Record) -> Course {
 }
 
 // Bytes of the recording. False where they could not be written, which is said.
-fn print(room: &[u8], n: usize) -> bool {
+fn print(rt: HostRuntime, room: &[u8], n: usize) -> bool {
     if n <= room.len() {
-        if !io::write_all(STDOUT_FILENO, &room[0..n]) {
-            os::fail(b"standard output");
+        if let Err(why) = Write::write_all(&mut rt.stdout(), &room[0..n]) {
+            files::fail(&mut rt.stderr(), b"standard output", why);
             return false;
         }
     }

@@ -5,38 +5,46 @@
 mod lines;
 mod reading;
 
-use libc::{STDERR_FILENO, STDIN_FILENO};
+use std::io::{Read, Write};
 
-fn main() {
-    if os::arg_count() < 2 {
-        record_from(STDIN_FILENO, b"standard input");
+// The most bytes that are read at once.
+const PIECE: usize = 65_536;
+
+// The most bytes of a path.
+const PATH: usize = 4_096;
+
+fn main(rt: HostRuntime) {
+    if files::arg_count(&rt) < 2 {
+        record_from(rt, &mut rt.stdin(), b"standard input");
         return;
     }
-    let mut path = io::buffer();
-    let n = os::arg(1, &mut path);
-    if os::errno() != 0 {
-        os::fail(&path);
-        return;
+    let mut path = [0u8; PATH];
+    match files::arg(&rt, 1, &mut path) {
+        Ok(n) => at(rt, &path[..n]),
+        Err(why) => files::fail(&mut rt.stderr(), &path, why),
     }
-    if n == 0 {
-        io::write_all(STDERR_FILENO, b"an empty argument: no path\n");
-        return;
-    }
-    let fd = os::open_read(&path[..n]);
-    if fd < 0 {
-        os::fail(&path[..n]);
-        return;
-    }
-    record_from(fd, &path[..n]);
-    libc::close(fd);
 }
 
-// The text that can be read from a descriptor.
-fn record_from(fd: i32, name: &[u8]) {
-    let mut piece = io::large_buffer();
-    let mut line = [0u8; reading::LINE];
-    if reading::read(fd, &mut piece, &mut line) {
+// The file of that path.
+fn at(rt: HostRuntime, path: &[u8]) {
+    if path.len() == 0 {
+        let _ = Write::write_all(&mut rt.stderr(), b"an empty argument: no path\n");
         return;
     }
-    os::fail(name);
+    match files::open_read(&rt, path) {
+        Ok(file) => {
+            let mut input = file;
+            record_from(rt, &mut input, path);
+        }
+        Err(why) => files::fail(&mut rt.stderr(), path, why),
+    }
+}
+
+// The text that can be read.
+fn record_from<R: Read>(rt: HostRuntime, input: &mut R, name: &[u8]) {
+    let mut piece = [0u8; PIECE];
+    let mut line = [0u8; reading::LINE];
+    if let Err(why) = reading::read(rt, input, &mut piece, &mut line) {
+        files::fail(&mut rt.stderr(), name, why);
+    }
 }

@@ -1,7 +1,8 @@
 // A text, read byte by byte and taken line by line.
 use crate::lines;
 use crate::lines::Course;
-use libc::STDERR_FILENO;
+use std::io;
+use std::io::Read;
 
 // No line is longer, without what stands behind | or #.
 pub(crate) const LINE: usize = 8_192;
@@ -25,27 +26,26 @@ fn fresh() -> Reading {
 }
 
 // Reads into a lent buffer until the text ends, or a line says so. Answers whether it could be read: where a read fails, the line at hand may be cut, and does not count.
-pub(crate) fn read(fd: i32, piece: &mut [u8], line: &mut [u8]) -> bool {
+pub(crate) fn read<R: Read>(
+    rt: HostRuntime,
+    input: &mut R,
+    piece: &mut [u8],
+    line: &mut [u8],
+) -> io::Result<()> {
     let mut reading = fresh();
-    let mut turns: u64 = 18_446_744_073_709_551_615;
-    while 0 < turns {
-        let got = libc::read(fd, piece);
-        let n = io::count(got, piece);
-        if got < 0 {
-            return false;
-        }
+    for _ in 0..u64::MAX {
+        let n = input.read(piece)?;
         if n == 0 {
-            ended(reading, line);
-            return true;
+            ended(rt, reading, line);
+            return Ok(());
         }
-        let next = through(reading, &piece[0..n], line);
+        let next = through(rt, reading, &piece[0..n], line);
         reading = next;
         if !goes_on(reading) {
-            return true;
+            return Ok(());
         }
-        turns -= 1;
     }
-    true
+    Ok(())
 }
 
 fn goes_on(reading: Reading) -> bool {
@@ -54,24 +54,22 @@ fn goes_on(reading: Reading) -> bool {
 }
 
 // Every byte of a piece, as far as the text goes on.
-fn through(reading: Reading, piece: &[u8], line: &mut [u8]) -> Reading {
+fn through(rt: HostRuntime, reading: Reading, piece: &[u8], line: &mut [u8]) -> Reading {
     let mut next = reading;
-    let mut i: usize = 0;
-    while i < piece.len() {
-        let following = byte(next, piece[i], line);
+    for b in piece {
+        let following = byte(rt, next, *b, line);
         next = following;
         if !goes_on(next) {
             return next;
         }
-        i += 1;
     }
     next
 }
 
 // One byte: of the line, or behind its words, or its end.
-fn byte(reading: Reading, b: u8, line: &mut [u8]) -> Reading {
+fn byte(rt: HostRuntime, reading: Reading, b: u8, line: &mut [u8]) -> Reading {
     if b == b'\n' {
-        return taken(reading, line);
+        return taken(rt, reading, line);
     }
     if reading.passing {
         return reading;
@@ -82,7 +80,7 @@ fn byte(reading: Reading, b: u8, line: &mut [u8]) -> Reading {
     if b == b'#' {
         return passed_over(reading);
     }
-    held(reading, b, line)
+    held(rt, reading, b, line)
 }
 
 // The rest of the line does not count.
@@ -96,7 +94,7 @@ fn passed_over(reading: Reading) -> Reading {
 }
 
 // One byte more of the line, if it can be held.
-fn held(reading: Reading, b: u8, line: &mut [u8]) -> Reading {
+fn held(rt: HostRuntime, reading: Reading, b: u8, line: &mut [u8]) -> Reading {
     let at = reading.held;
     if at < line.len() {
         line[at] = b;
@@ -107,18 +105,18 @@ fn held(reading: Reading, b: u8, line: &mut [u8]) -> Reading {
             course: Course::On,
         };
     }
-    unclear(reading.before)
+    unclear(rt, reading.before)
 }
 
 // The line that was read.
-fn taken(reading: Reading, line: &mut [u8]) -> Reading {
+fn taken(rt: HostRuntime, reading: Reading, line: &mut [u8]) -> Reading {
     let n = reading.held;
     if line.len() < n {
-        return unclear(reading.before);
+        return unclear(rt, reading.before);
     }
-    let course = lines::record(&line[0..n]);
+    let course = lines::record(rt, &line[0..n]);
     match course {
-        Course::Unclear => unclear(reading.before),
+        Course::Unclear => unclear(rt, reading.before),
         _ => Reading {
             held: 0,
             passing: false,
@@ -136,10 +134,9 @@ fn one_more(n: u64) -> u64 {
 }
 
 // A line that is not understood, by its number: so many stand before it.
-fn unclear(before: u64) -> Reading {
-    io::write_all(STDERR_FILENO, b"line ");
-    io::print_decimal(STDERR_FILENO, one_more(before));
-    io::write_all(STDERR_FILENO, b" is not understood\n");
+fn unclear(rt: HostRuntime, before: u64) -> Reading {
+    let number = one_more(before);
+    let _ = eprintln!(rt; "line {number} is not understood");
     Reading {
         held: 0,
         passing: false,
@@ -149,8 +146,8 @@ fn unclear(before: u64) -> Reading {
 }
 
 // The text ends: its last line may lack its end.
-fn ended(reading: Reading, line: &mut [u8]) {
+fn ended(rt: HostRuntime, reading: Reading, line: &mut [u8]) {
     if 0 < reading.held {
-        taken(reading, line);
+        taken(rt, reading, line);
     }
 }

@@ -3,76 +3,84 @@
 #![tactic(auto)]
 
 use grading_rules::Findings;
-use libc::{STDERR_FILENO, STDIN_FILENO, STDOUT_FILENO};
 use refusals::Put;
+use std::io::{Read, Write};
 
-fn main() {
-    if os::arg_count() < 2 {
-        let mut piece = io::large_buffer();
-        replay_from(STDIN_FILENO, b"standard input", &mut piece);
+// The most bytes that are read at once.
+const PIECE: usize = 65_536;
+
+// The most bytes of a path.
+const PATH: usize = 4_096;
+
+fn main(rt: HostRuntime) {
+    let count = files::arg_count(&rt);
+    if count < 2 {
+        let mut piece = [0u8; PIECE];
+        replay_from(rt, &mut rt.stdin(), b"standard input", &mut piece);
         return;
     }
-    each(os::arg_count());
+    each(rt, count);
 }
 
 // Every argument, behind the program's own name.
-fn each(count: usize) {
-    let mut i: usize = 1;
-    while i < count {
-        named(i);
-        i += 1;
+fn each(rt: HostRuntime, count: usize) {
+    for i in 1..count {
+        named(rt, i);
     }
 }
 
 // The file that an argument names.
-fn named(i: usize) {
-    let mut path = io::buffer();
-    let n = os::arg(i, &mut path);
-    if os::errno() != 0 {
-        os::fail(&path);
-        return;
+fn named(rt: HostRuntime, i: usize) {
+    let mut path = [0u8; PATH];
+    match files::arg(&rt, i, &mut path) {
+        Ok(n) => at(rt, &path[..n]),
+        Err(why) => files::fail(&mut rt.stderr(), &path, why),
     }
-    if n == 0 {
-        io::write_all(STDERR_FILENO, b"an empty argument: no path\n");
-        return;
-    }
-    let fd = os::open_read(&path[..n]);
-    if fd < 0 {
-        os::fail(&path[..n]);
-        return;
-    }
-    let mut piece = io::large_buffer();
-    replay_from(fd, &path[..n], &mut piece);
-    libc::close(fd);
 }
 
-// The recording that can be read from a descriptor, in pieces that are read into a lent buffer.
-fn replay_from(fd: i32, name: &[u8], piece: &mut [u8]) {
-    let replayed = feeding::replay_from(fd, piece);
-    if replayed.failed {
-        os::fail(name);
+// The file of that path.
+fn at(rt: HostRuntime, path: &[u8]) {
+    if path.len() == 0 {
+        let _ = Write::write_all(&mut rt.stderr(), b"an empty argument: no path\n");
+        return;
+    }
+    match files::open_read(&rt, path) {
+        Ok(file) => {
+            let mut input = file;
+            let mut piece = [0u8; PIECE];
+            replay_from(rt, &mut input, path, &mut piece);
+        }
+        Err(why) => files::fail(&mut rt.stderr(), path, why),
+    }
+}
+
+// The recording that can be read, in pieces that are read into a lent buffer.
+fn replay_from<R: Read>(rt: HostRuntime, input: &mut R, name: &[u8], piece: &mut [u8]) {
+    let replayed = feeding::replay_from(rt, input, piece);
+    if let Some(why) = replayed.failed {
+        files::fail(&mut rt.stderr(), name, why);
         return;
     }
     let found = replayed.found;
-    show(name, found);
+    show(rt, name, found);
 }
 
 // The report of what was found, written out. A room of the longest report's length is always enough.
-fn show(name: &[u8], found: Findings) {
+fn show(rt: HostRuntime, name: &[u8], found: Findings) {
     let mut room = [0u8; report::LONGEST];
     match report::write_report(found, &mut room) {
-        Put::Bytes(n) => print(&room, n),
+        Put::Bytes(n) => print(rt, &room, n),
         Put::Refused(_) => {
-            io::write_all(STDERR_FILENO, name);
-            io::write_all(STDERR_FILENO, b": no room for the report\n");
+            let _ = Write::write_all(&mut rt.stderr(), name);
+            let _ = Write::write_all(&mut rt.stderr(), b": no room for the report\n");
         }
     }
 }
 
-fn print(room: &[u8], n: usize) {
+fn print(rt: HostRuntime, room: &[u8], n: usize) {
     if n <= room.len() {
-        if !io::write_all(STDOUT_FILENO, &room[0..n]) {
-            os::fail(b"standard output");
+        if let Err(why) = Write::write_all(&mut rt.stdout(), &room[0..n]) {
+            files::fail(&mut rt.stderr(), b"standard output", why);
         }
     }
 }

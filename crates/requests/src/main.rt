@@ -3,66 +3,77 @@
 #![tactic(auto)]
 
 use grading_rules::{Ending, Findings};
-use libc::{STDERR_FILENO, STDIN_FILENO};
+use std::io;
+use std::io::{Read, Write};
 
-fn main() {
-    if os::arg_count() < 2 {
-        let mut piece = io::large_buffer();
-        list_from(STDIN_FILENO, b"standard input", &mut piece);
+// The most bytes that are read at once.
+const PIECE: usize = 65_536;
+
+// The most bytes of a path.
+const PATH: usize = 4_096;
+
+fn main(rt: HostRuntime) {
+    let count = files::arg_count(&rt);
+    if count < 2 {
+        let mut piece = [0u8; PIECE];
+        list_from(rt, &mut rt.stdin(), b"standard input", &mut piece);
         return;
     }
-    each(os::arg_count());
+    each(rt, count);
 }
 
 // Every argument, behind the program's own name.
-fn each(count: usize) {
-    let mut i: usize = 1;
-    while i < count {
-        named(i);
-        i += 1;
+fn each(rt: HostRuntime, count: usize) {
+    for i in 1..count {
+        named(rt, i);
     }
 }
 
 // The file that an argument names.
-fn named(i: usize) {
-    let mut path = io::buffer();
-    let n = os::arg(i, &mut path);
-    if os::errno() != 0 {
-        os::fail(&path);
-        return;
+fn named(rt: HostRuntime, i: usize) {
+    let mut path = [0u8; PATH];
+    match files::arg(&rt, i, &mut path) {
+        Ok(n) => at(rt, &path[..n]),
+        Err(why) => files::fail(&mut rt.stderr(), &path, why),
     }
-    if n == 0 {
-        io::write_all(STDERR_FILENO, b"an empty argument: no path\n");
-        return;
-    }
-    let fd = os::open_read(&path[..n]);
-    if fd < 0 {
-        os::fail(&path[..n]);
-        return;
-    }
-    let mut piece = io::large_buffer();
-    list_from(fd, &path[..n], &mut piece);
-    libc::close(fd);
 }
 
-// The recording that can be read from a descriptor, in pieces that are read into a lent buffer.
-fn list_from(fd: i32, name: &[u8], piece: &mut [u8]) {
-    let replayed = feeding::replay_from(fd, piece);
-    if replayed.failed {
-        os::fail(name);
+// The file of that path.
+fn at(rt: HostRuntime, path: &[u8]) {
+    if path.len() == 0 {
+        let _ = Write::write_all(&mut rt.stderr(), b"an empty argument: no path\n");
+        return;
+    }
+    match files::open_read(&rt, path) {
+        Ok(file) => {
+            let mut input = file;
+            let mut piece = [0u8; PIECE];
+            list_from(rt, &mut input, path, &mut piece);
+        }
+        Err(why) => files::fail(&mut rt.stderr(), path, why),
+    }
+}
+
+// The recording that can be read, in pieces that are read into a lent buffer.
+fn list_from<R: Read>(rt: HostRuntime, input: &mut R, name: &[u8], piece: &mut [u8]) {
+    let replayed = feeding::replay_from(rt, input, piece);
+    if let Some(why) = replayed.failed {
+        files::fail(&mut rt.stderr(), name, why);
         return;
     }
     let found = replayed.found;
-    show(found);
+    if let Err(why) = show(&mut rt.stdout(), found) {
+        files::fail(&mut rt.stderr(), b"standard output", why);
+    }
 }
 
 // What a replay left: its requests, or the one line of a bad recording.
-fn show(found: Findings) {
+fn show<W: Write>(out: &mut W, found: Findings) -> io::Result<()> {
     let account = found.account;
     let requests = account.requests;
     let ending = found.ending;
     match ending {
-        Ending::Good => spoken::requests(requests),
-        Ending::Bad(_, _) => spoken::report(found),
+        Ending::Good => spoken::requests(out, requests),
+        Ending::Bad(_, _) => spoken::report(out, found),
     }
 }

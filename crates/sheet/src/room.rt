@@ -1,9 +1,11 @@
 // The room that is lent to a plain writer: 24 bytes, of which it is given so many from the start. Each holds the same byte at first, so
 // that it shows whether a call left it as it was.
-ghost use Rattle.std.specs.Prelude.{◌≡◌, ◌≤◌, length};
+ghost use Rattle.std.specs.Prelude.{◌≡◌, ◌≤◌, length, IfOk};
 
 use crate::print;
 use refusals::Put;
+use std::io;
+use std::io::Write;
 
 const FILL: u8 = 0xA5;
 
@@ -30,56 +32,58 @@ pub fn at_most(n: usize, room: &[u8]) -> usize
 }
 
 // What a plain writer answered, the bytes that it put, and whether every other byte of the room is what it was. Says how many bytes it put.
-pub fn print_put(put: Put, room: &[u8]) -> usize
-    ensures { result ≤ length room.now }
+pub fn print_put<W: Write>(out: &mut W, put: Put, room: &[u8]) -> io::Result<usize>
+    ensures { IfOk result (λ n. n ≤ length room.now) }
 {
     match put {
-        Put::Bytes(n) => print_laid(n, room),
-        Put::Refused(why) => print_refused(why.number(), room),
+        Put::Bytes(n) => print_laid(out, n, room),
+        Put::Refused(why) => print_refused(out, why.number(), room),
     }
 }
 
-fn print_laid(n: usize, room: &[u8]) -> usize
-    ensures { result ≤ length room.now }
+fn print_laid<W: Write>(out: &mut W, n: usize, room: &[u8]) -> io::Result<usize>
+    ensures { IfOk result (λ n. n ≤ length room.now) }
 {
-    print::print_text(b" -> length ");
-    print::print_number(n);
-    print::print_text(b":");
+    print::print_text(out, b" -> length ")?;
+    print::print_number(out, n)?;
+    print::print_text(out, b":")?;
     let end = at_most(n, room);
-    print::print_bytes(&room[0..end]);
-    print::print_text(b", rest ");
-    print_kept(room, end);
-    end
+    print::print_bytes(out, &room[0..end])?;
+    print::print_text(out, b", rest ")?;
+    print_kept(out, room, end)?;
+    Ok(end)
 }
 
 // What a call refused, by 01's number, and whether it left the room as it was.
-pub fn print_refused(number: u8, room: &[u8]) -> usize
-    ensures { result ≤ length room.now }
+pub fn print_refused<W: Write>(out: &mut W, number: u8, room: &[u8]) -> io::Result<usize>
+    ensures { IfOk result (λ n. n ≤ length room.now) }
 {
-    print::print_form(b" -> refused #, room ", &[number as u32]);
-    print_kept(room, 0);
-    0
+    print::print_form(out, b" -> refused #, room ", &[number as u32])?;
+    print_kept(out, room, 0)?;
+    Ok(0)
 }
 
 // What a session's call that was done put, if anything, in a line of its own.
-pub fn print_done(put: usize, room: &[u8]) {
+pub fn print_done<W: Write>(out: &mut W, put: usize, room: &[u8]) -> io::Result<()> {
     if 0 < put {
-        print::print_text(b"   ");
-        print_laid(put, room);
+        print::print_text(out, b"   ")?;
+        print_laid(out, put, room)?;
     }
+    Ok(())
 }
 
 // Why a session's call was not done, in a line of its own.
-pub fn print_not_done(number: u8, room: &[u8]) {
-    print::print_text(b"   ");
-    print_refused(number, room);
+pub fn print_not_done<W: Write>(out: &mut W, number: u8, room: &[u8]) -> io::Result<()> {
+    print::print_text(out, b"   ")?;
+    print_refused(out, number, room)?;
+    Ok(())
 }
 
-fn print_kept(room: &[u8], from: usize) {
+fn print_kept<W: Write>(out: &mut W, room: &[u8], from: usize) -> io::Result<()> {
     if kept(room, from) {
-        print::print_text(b"kept\n");
+        print::print_text(out, b"kept\n")
     } else {
-        print::print_text(b"CHANGED\n");
+        print::print_text(out, b"CHANGED\n")
     }
 }
 

@@ -3,6 +3,8 @@
 ghost use Rattle.std.specs.Prelude.{◌≤◌, ◌<◌, length};
 
 use crate::{print, room};
+use std::io;
+use std::io::Write;
 
 // The place past the first b at or after a place; the end where there is none.
 pub fn past(s: &[u8], from: usize, b: u8) -> usize
@@ -131,21 +133,28 @@ fn more(n: u64, digit: u8) -> u64 {
 }
 
 // The line, without its end.
-pub fn print_line(line: &[u8]) {
-    print::print_text(b"  ");
+pub fn print_line<W: Write>(out: &mut W, line: &[u8]) -> io::Result<()> {
+    print::print_text(out, b"  ")?;
     let end = past(line, 0, b'\n');
     if 0 < end {
-        print::print_text(&line[0..end - 1]);
+        print::print_text(out, &line[0..end - 1])?;
     }
+    Ok(())
 }
 
 // One of several forms, each ended by a bar: the one that has so many before it.
-pub fn print_one(forms: &[u8], before: usize, values: &[u32]) {
+pub fn print_one<W: Write>(
+    out: &mut W,
+    forms: &[u8],
+    before: usize,
+    values: &[u32],
+) -> io::Result<()> {
     let at = part(forms, before, b'|');
     let end = past(forms, at, b'|');
     if at < end {
-        print::print_form(&forms[at..end - 1], values);
+        print::print_form(out, &forms[at..end - 1], values)?;
     }
+    Ok(())
 }
 
 // How many bytes the frame has that stands behind a line's colon.

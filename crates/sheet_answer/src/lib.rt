@@ -3,12 +3,14 @@
 
 use dispenser_frame_rules::Answer;
 use error_codes::ErrorClass;
+use std::io;
+use std::io::Write;
 
 // An answer's code and the values of its fields.
-pub fn print_answer(answer: Answer) {
+pub fn print_answer<W: Write>(out: &mut W, answer: Answer) -> io::Result<()> {
     let code = dispenser_frame::code_of(answer) as u32;
     match answer {
-        Answer::Purged { error } => sheet::print_form(b" $ error $", &[code, error as u32]),
+        Answer::Purged { error } => sheet::print_form(out, b" $ error $", &[code, error as u32]),
         Answer::PaidOne {
             cassette: _,
             chk,
@@ -17,6 +19,7 @@ pub fn print_answer(answer: Answer) {
             state,
             rejects,
         } => sheet::print_form(
+            out,
             b" $ CHK # EXIT # error $ state $ rejects #",
             &[code, chk, exit, error as u32, state as u32, rejects],
         ),
@@ -31,6 +34,7 @@ pub fn print_answer(answer: Answer) {
             upper_rejects,
             lower_rejects,
         } => sheet::print_form(
+            out,
             b" $ upper CHK # EXIT # lower CHK # EXIT # error $ upper state $ lower state $ upper rejects # lower rejects #",
             &[
                 code,
@@ -52,6 +56,7 @@ pub fn print_answer(answer: Answer) {
             state,
             rejects,
         } => sheet::print_form(
+            out,
             b" $ CHK # error $ state $ rejects #",
             &[code, chk, error as u32, state as u32, rejects],
         ),
@@ -60,6 +65,7 @@ pub fn print_answer(answer: Answer) {
             sensor0,
             sensor1,
         } => sheet::print_form(
+            out,
             b" $ error $ sensor 0 $ sensor 1 $",
             &[code, error as u32, sensor0 as u32, sensor1 as u32],
         ),
@@ -67,15 +73,15 @@ pub fn print_answer(answer: Answer) {
 }
 
 // What a reader hands back: the answer, and the class of its error by its name in 02, Q-5.
-pub fn print_read(answer: Answer, class: ErrorClass) {
-    print_answer(answer);
+pub fn print_read<W: Write>(out: &mut W, answer: Answer, class: ErrorClass) -> io::Result<()> {
+    print_answer(out, answer)?;
     match class {
-        ErrorClass::Fine => sheet::print_text(b", error fine\n"),
-        ErrorClass::OutOfNotes => sheet::print_text(b", error out of notes\n"),
-        ErrorClass::NotSeated => sheet::print_text(b", error not seated\n"),
-        ErrorClass::Jam => sheet::print_text(b", error jam\n"),
-        ErrorClass::CountInDoubt => sheet::print_text(b", error count in doubt\n"),
-        ErrorClass::OtherListed => sheet::print_text(b", error other listed\n"),
-        ErrorClass::Unlisted => sheet::print_text(b", error unlisted\n"),
+        ErrorClass::Fine => sheet::print_text(out, b", error fine\n"),
+        ErrorClass::OutOfNotes => sheet::print_text(out, b", error out of notes\n"),
+        ErrorClass::NotSeated => sheet::print_text(out, b", error not seated\n"),
+        ErrorClass::Jam => sheet::print_text(out, b", error jam\n"),
+        ErrorClass::CountInDoubt => sheet::print_text(out, b", error count in doubt\n"),
+        ErrorClass::OtherListed => sheet::print_text(out, b", error other listed\n"),
+        ErrorClass::Unlisted => sheet::print_text(out, b", error unlisted\n"),
     }
 }

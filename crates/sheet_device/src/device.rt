@@ -4,6 +4,8 @@ ghost use Rattle.std.specs.Prelude.{◌≤◌};
 use crate::{moves, way};
 use dispenser_frame_rules::Answer;
 use pretend_rules::{Device, Happening, Outcome, Reply};
+use std::io;
+use std::io::Write;
 
 #[derive(Clone, Copy)]
 enum Call {
@@ -13,21 +15,28 @@ enum Call {
 }
 
 // Every call of a move, in turn.
-pub fn moved(word: &[u8], device: Device, down: &mut [usize], up: &mut [usize]) -> Device {
+pub fn moved<W: Write>(
+    out: &mut W,
+    word: &[u8],
+    device: Device,
+    down: &mut [usize],
+    up: &mut [usize],
+) -> io::Result<Device> {
     let what = moves::what(b'd', word);
     let mut now = device;
     let mut left = moves::calls(what, word, down, up);
     while 0 < left {
         now = one(
+            out,
             what,
             call_of(what, word, left, down),
             size(what, up),
             now,
             up,
-        );
+        )?;
         left -= 1;
     }
-    now
+    Ok(now)
 }
 
 // The call that has so many behind it, itself among them.
@@ -67,14 +76,21 @@ fn size(what: u8, up: &[usize]) -> usize
 }
 
 // Makes a call, and shows what it answered; what it put is on its way.
-fn one(what: u8, call: Call, size: usize, device: Device, up: &mut [usize]) -> Device
+fn one<W: Write>(
+    out: &mut W,
+    what: u8,
+    call: Call,
+    size: usize,
+    device: Device,
+    up: &mut [usize],
+) -> io::Result<Device>
     requires { size ≤ 24 }
 {
     let mut lent = sheet::short_room();
     let outcome = made(call, device, &mut lent[0..size]);
     let reply = outcome.reply;
-    show(what, reply, &lent, up);
-    outcome.device
+    show(out, what, reply, &lent, up)?;
+    Ok(outcome.device)
 }
 
 fn made(call: Call, device: Device, lent: &mut [u8]) -> Outcome {
@@ -86,25 +102,35 @@ fn made(call: Call, device: Device, lent: &mut [u8]) -> Outcome {
 }
 
 // Of an exchange with the device alone nothing is shown.
-fn show(what: u8, reply: Reply, lent: &[u8], up: &mut [usize]) {
+fn show<W: Write>(
+    out: &mut W,
+    what: u8,
+    reply: Reply,
+    lent: &[u8],
+    up: &mut [usize],
+) -> io::Result<()> {
     if what == b'm' {
-        return;
+        return Ok(());
     }
     match reply {
-        Reply::NotDone(why) => sheet::print_form(b"device refused #\n", &[why.number() as u32]),
+        Reply::NotDone(why) => sheet::print_form(
+            out,
+            b"device refused #\n",
+            &[why.number() as u32],
+        ),
         Reply::Done { put, what } => {
-            way::put_on(b"device puts", put, lent, up);
-            happened(what);
+            way::put_on(out, b"device puts", put, lent, up)?;
+            happened(out, what)
         }
     }
 }
 
-fn happened(what: Happening) {
+fn happened<W: Write>(out: &mut W, what: Happening) -> io::Result<()> {
     match what {
-        Happening::Nothing => {}
+        Happening::Nothing => Ok(()),
         Happening::Taken { code, upper, lower } => {
-            sheet::print_form(b"device takes $ # #\n", &[code as u32, upper, lower])
+            sheet::print_form(out, b"device takes $ # #\n", &[code as u32, upper, lower])
         }
-        Happening::Ended => sheet::print_text(b"device ends\n"),
+        Happening::Ended => sheet::print_text(out, b"device ends\n"),
     }
 }

@@ -2,6 +2,9 @@
 // other end or are lost.
 ghost use Rattle.std.specs.Prelude.{◌≤◌};
 
+use std::io;
+use std::io::Write;
+
 pub const ROOM: usize = 0;
 
 const PUT: usize = 1;
@@ -76,15 +79,22 @@ fn put(way: &mut [usize], b: u8) {
 }
 
 // The first n bytes of the room, if any, are printed and put on their way.
-pub fn put_on(name: &[u8], n: usize, room: &[u8], way: &mut [usize]) {
+pub fn put_on<W: Write>(
+    out: &mut W,
+    name: &[u8],
+    n: usize,
+    room: &[u8],
+    way: &mut [usize],
+) -> io::Result<()> {
     if n == 0 {
-        return;
+        return Ok(());
     }
-    sheet::print_text(name);
+    sheet::print_text(out, name)?;
     let end = sheet::at_most(n, room);
-    sheet::print_bytes(&room[0..end]);
-    sheet::print_text(b"\n");
+    sheet::print_bytes(out, &room[0..end])?;
+    sheet::print_text(out, b"\n")?;
     put_each(&room[0..end], way);
+    Ok(())
 }
 
 fn put_each(bytes: &[u8], way: &mut [usize]) {

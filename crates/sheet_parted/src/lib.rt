@@ -10,71 +10,85 @@
 use parted::{Next, Parted, Whose};
 use recording::{Fault, NextRecord, record_at};
 use sheet::{at_most, print_bytes, print_number, print_text};
+use std::io;
+use std::io::Write;
 
 // What was found of two recordings, or of what is left of them behind equal records. `at` and `records` are the place and the count in the whole recordings.
-pub fn print_parted(found: Parted, student: &[u8], reference: &[u8], at: usize, records: usize) {
+pub fn print_parted<W: Write>(
+    out: &mut W,
+    found: Parted,
+    student: &[u8],
+    reference: &[u8],
+    at: usize,
+    records: usize,
+) -> io::Result<()> {
     let next = found.next;
     match next {
         Next::Rest(whose) => {
             let s = at_most(found.at, student);
             let r = at_most(found.at, reference);
-            print_rest(whose, &student[s..], &reference[r..], at, records);
+            print_rest(out, whose, &student[s..], &reference[r..], at, records)
         }
-        Next::Malformed(whose, why) => print_bad(whose, why, at),
+        Next::Malformed(whose, why) => print_bad(out, whose, why, at),
     }
 }
 
-fn print_bad(whose: Whose, why: Fault, at: usize) {
-    print_whose(whose);
-    print_text(b" bad ");
-    print_number(why.number() as usize);
-    print_text(b" at ");
-    print_number(at);
-    print_text(b"\n");
+fn print_bad<W: Write>(out: &mut W, whose: Whose, why: Fault, at: usize) -> io::Result<()> {
+    print_whose(out, whose)?;
+    print_text(out, b" bad ")?;
+    print_number(out, why.number() as usize)?;
+    print_text(out, b" at ")?;
+    print_number(out, at)?;
+    print_text(out, b"\n")
 }
 
 // What each has left. Both have ended: they are equal.
-fn print_rest(whose: Whose, student: &[u8], reference: &[u8], at: usize, records: usize) {
+fn print_rest<W: Write>(
+    out: &mut W,
+    whose: Whose,
+    student: &[u8],
+    reference: &[u8],
+    at: usize,
+    records: usize,
+) -> io::Result<()> {
     if student.len() == 0 {
         if reference.len() == 0 {
-            print_text(b"equal ");
-            print_number(at);
-            print_text(b"\n");
-            return;
+            print_text(out, b"equal ")?;
+            print_number(out, at)?;
+            return print_text(out, b"\n");
         }
     }
-    print_text(b"part at ");
-    print_number(at);
-    print_text(b" record ");
-    print_number(records);
-    print_text(b" ");
-    print_whose(whose);
-    print_text(b"\nstudent");
-    print_record(student);
-    print_text(b"\nreference");
-    print_record(reference);
-    print_text(b"\n");
+    print_text(out, b"part at ")?;
+    print_number(out, at)?;
+    print_text(out, b" record ")?;
+    print_number(out, records)?;
+    print_text(out, b" ")?;
+    print_whose(out, whose)?;
+    print_text(out, b"\nstudent")?;
+    print_record(out, student)?;
+    print_text(out, b"\nreference")?;
+    print_record(out, reference)?;
+    print_text(out, b"\n")
 }
 
-fn print_whose(whose: Whose) {
+fn print_whose<W: Write>(out: &mut W, whose: Whose) -> io::Result<()> {
     match whose {
-        Whose::Student => print_text(b"student"),
-        Whose::Reference => print_text(b"reference"),
+        Whose::Student => print_text(out, b"student"),
+        Whose::Reference => print_text(out, b"reference"),
     }
 }
 
 // The record that what is left begins with.
-fn print_record(rest: &[u8]) {
+fn print_record<W: Write>(out: &mut W, rest: &[u8]) -> io::Result<()> {
     if rest.len() == 0 {
-        print_text(b" end");
-        return;
+        return print_text(out, b" end");
     }
     match record_at(rest, 0) {
         NextRecord::Whole(_, n) => {
             let end = at_most(n, rest);
-            print_bytes(&rest[0..end]);
+            print_bytes(out, &rest[0..end])
         }
         // where they part each has a record or has ended
-        NextRecord::Bad(_) => {}
+        NextRecord::Bad(_) => Ok(()),
     }
 }

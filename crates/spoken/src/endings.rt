@@ -4,53 +4,69 @@ use dispenser_rules::Requests;
 use grading_rules::{Ending, Findings};
 use recording::Fault;
 use refusals::Put;
+use std::io;
+use std::io::Write;
 use text::Said;
 
 // All of it, with the bytes in which a fault shows: so many of those lent.
-pub fn ending(found: Findings, bytes: &[u8], held: usize) {
+pub fn ending<W: Write>(
+    out: &mut W,
+    found: Findings,
+    bytes: &[u8],
+    held: usize,
+) -> io::Result<()> {
     let account = found.account;
     let all = account.requests;
     let ending = found.ending;
     match ending {
         Ending::Good => {
-            heading(Said::REQUESTS);
-            requests(all);
+            heading(out, Said::REQUESTS)?;
+            requests(out, all)?;
         }
-        Ending::Bad(why, at) => fault(why, at, bytes, held),
+        Ending::Bad(why, at) => fault(out, why, at, bytes, held)?,
     }
-    heading(Said::REPORT);
-    report(found);
+    heading(out, Said::REPORT)?;
+    report(out, found)
 }
 
 // A line of one sentence, behind an empty one.
-fn heading(sentence: usize) {
-    print(b"\n", 1);
-    say(Said::alone(sentence));
-    print(b"\n", 1);
+fn heading<W: Write>(out: &mut W, sentence: usize) -> io::Result<()> {
+    print(out, b"\n", 1)?;
+    say(out, Said::alone(sentence))?;
+    print(out, b"\n", 1)
 }
 
-fn fault(why: Fault, at: u32, bytes: &[u8], held: usize) {
+fn fault<W: Write>(
+    out: &mut W,
+    why: Fault,
+    at: u32,
+    bytes: &[u8],
+    held: usize,
+) -> io::Result<()> {
     let mut room = [0u8; 48];
-    say(Said::with(Said::BAD, [why.number() as u64, at as u64, 0, 0]));
+    say(
+        out,
+        Said::with(Said::BAD, [why.number() as u64, at as u64, 0, 0]),
+    )?;
     if held <= bytes.len() {
         let n = text::bytes(&mut room, 0, &bytes[0..held]);
-        print(&room, n);
+        print(out, &room, n)?;
     }
-    print(b"\n", 1);
+    print(out, b"\n", 1)
 }
 
 // The requests that are kept, oldest first.
-pub fn requests(all: Requests) {
+pub fn requests<W: Write>(out: &mut W, all: Requests) -> io::Result<()> {
     let mut room = [0u8; words::REQUESTS_ROOM];
     let n = words::requests(&mut room, all);
-    print(&room, n);
+    print(out, &room, n)
 }
 
 // The report of what was found.
-pub fn report(found: Findings) {
+pub fn report<W: Write>(out: &mut W, found: Findings) -> io::Result<()> {
     let mut room = [0u8; report::LONGEST];
     match report::write_report(found, &mut room) {
-        Put::Bytes(n) => print(&room, n),
-        Put::Refused(_) => {}
+        Put::Bytes(n) => print(out, &room, n),
+        Put::Refused(_) => Ok(()),
     }
 }

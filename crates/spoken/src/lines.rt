@@ -1,7 +1,9 @@
 // The lines of a told recording. Records share a line: equal ticks of which nothing is to be told, and bytes that no session kept.
 use crate::sentences::{parts, print, say};
 use recording::Record;
-use text::{Said, byte, write};
+use std::io;
+use std::io::Write;
+use text::{Said, byte};
 use words::Passing;
 
 // What the line at hand is of. It is written as far as it is known.
@@ -80,7 +82,8 @@ fn ticks(ms: u32, count: u32, again: u32) -> Run {
 }
 
 // A record on the line at hand, or on one of its own, with what was made of it.
-pub fn written(
+pub fn written<W: Write>(
+    out: &mut W,
     line: Run,
     next: Run,
     x: Record,
@@ -88,71 +91,71 @@ pub fn written(
     offset: u64,
     made: &[u8],
     n: usize,
-) -> Run {
+) -> io::Result<Run> {
     let longer = joined(line, next);
     match longer {
         Run::Nothing => {
-            end(line);
-            begin(x, ms, offset);
-            go_on(next, made, n);
-            next
+            end(out, line)?;
+            begin(out, x, ms, offset)?;
+            go_on(out, next, made, n)?;
+            Ok(next)
         }
         _ => {
-            add(x);
-            longer
+            add(out, x)?;
+            Ok(longer)
         }
     }
 }
 
 // Where a record stands, and its words.
-fn begin(x: Record, ms: u64, offset: u64) {
+fn begin<W: Write>(out: &mut W, x: Record, ms: u64, offset: u64) -> io::Result<()> {
     let mut room = [0u8; 522];
-    let a = write(&mut room, 0, Said::with(Said::PLACE, [ms, offset, 0, 0]));
+    let a = text::write(&mut room, 0, Said::with(Said::PLACE, [ms, offset, 0, 0]));
     let b = byte(&mut room, a, b' ');
-    let n = write(&mut room, b, spelling::said(x));
-    print(&room, n);
+    let n = text::write(&mut room, b, spelling::said(x));
+    print(out, &room, n)
 }
 
 // What was made of it, and the line's end; where others may join it, the line stays as it is.
-fn go_on(run: Run, made: &[u8], n: usize) {
+fn go_on<W: Write>(out: &mut W, run: Run, made: &[u8], n: usize) -> io::Result<()> {
     match run {
         Run::Nothing => {
-            parts(b" |", made, n);
-            print(b"\n", 1);
+            parts(out, b" |", made, n)?;
+            print(out, b"\n", 1)
         }
-        _ => {}
+        _ => Ok(()),
     }
 }
 
 // One record more on the line: of a tick nothing is added, since their number stands at the end.
-fn add(x: Record) {
+fn add<W: Write>(out: &mut W, x: Record) -> io::Result<()> {
     match x {
-        Record::DispenserByte(b) => say(Said::with(Said::FURTHER, [b as u64, 0, 0, 0])),
-        Record::ValidatorByte(b) => say(Said::with(Said::FURTHER, [b as u64, 0, 0, 0])),
-        _ => {}
+        Record::DispenserByte(b) => say(out, Said::with(Said::FURTHER, [b as u64, 0, 0, 0])),
+        Record::ValidatorByte(b) => say(out, Said::with(Said::FURTHER, [b as u64, 0, 0, 0])),
+        _ => Ok(()),
     }
 }
 
 // The line ends.
-pub fn end(line: Run) {
+pub fn end<W: Write>(out: &mut W, line: Run) -> io::Result<()> {
     match line {
-        Run::Nothing => {}
-        Run::Ticks(_, count) => end_ticks(count),
-        Run::Dispenser(passing, _) => end_bytes(passing),
-        Run::Validator(passing, _) => end_bytes(passing),
+        Run::Nothing => Ok(()),
+        Run::Ticks(_, count) => end_ticks(out, count),
+        Run::Dispenser(passing, _) => end_bytes(out, passing),
+        Run::Validator(passing, _) => end_bytes(out, passing),
     }
 }
 
-fn end_ticks(count: u32) {
+fn end_ticks<W: Write>(out: &mut W, count: u32) -> io::Result<()> {
     if 1 < count {
-        say(Said::with(Said::TIMES, [count as u64, 0, 0, 0]));
+        say(out, Said::with(Said::TIMES, [count as u64, 0, 0, 0]))?;
     }
-    print(b"\n", 1);
+    print(out, b"\n", 1)
 }
 
-fn end_bytes(passing: Passing) {
+fn end_bytes<W: Write>(out: &mut W, passing: Passing) -> io::Result<()> {
     let mut room = [0u8; 261];
-    let n = write(&mut room, 0, words::passed(passing));
-    parts(b" |", &room, n);
-    print(b"\n", 1);
+    let n = text::write(&mut room, 0, words::passed(passing));
+    parts(out, b" |", &room, n)?;
+    print(out, b"\n", 1)
 }
