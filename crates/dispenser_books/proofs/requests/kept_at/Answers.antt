@@ -21,7 +21,7 @@ pub bounds-requests-slot : goal.bounds-requests-slot
 bounds-requests-slot c = rw c.around-slot.ensures (slot-within _ _ _ c.if-next-ge-MOST.false c.if-held-gt-MOST.false c.if-held-place.false)
 
 pub offset_bounds-requests-slot : goal.offset_bounds-requests-slot
-offset_bounds-requests-slot c = let w = element-copy-out-request c in search rules
+offset_bounds-requests-slot c = let w = bounds-requests-slot c in search rules
 
 pub returns : goal.returns
 unfolding kept_at
