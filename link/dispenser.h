@@ -1,5 +1,5 @@
 /*
- * The dispenser session of the Model 2000T, for a program in C or C++ on x86-64 Linux. Link libdispenser_link.a, which `rt staticlib dispenser_link` writes.
+ * The dispenser session of the Model 2000T, for a program in C or C++ on x86-64 Linux. Link libdispenser_link.a, which `rt lib` in crates/dispenser_link writes.
  * README.md, "Linking it", shows how; docs/DECISIONS.md, "Linking", says what a caller owes.
  */
 #ifndef DISPENSER_H

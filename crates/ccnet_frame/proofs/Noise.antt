@@ -15,7 +15,6 @@ use Rattle.numbers.proofs.Xor.{bit-lt, xor_assoc, xor-cancel, xor-eq, xor-half, 
 use Rattle.ccnet_check.specs.Check.{fed, turn, turns, check_from, check}
 use Rattle.ccnet_frame.specs.Frame.{is_sized, judge_frame}
 use Rattle.ccnet_frame.specs.Noise.{low_bits, bits, Within16, RightCheck, BurstSeen}
-use Rattle.ccnet_frame.specs.declared.Judged.TheVariants.{Good}
 use Rattle.ccnet_check.proofs.Checks.{check-append}
 use Rattle.ccnet_check.proofs.Turns.{turns-xor, turns-shift, turns-add, turns-zero, turns-kernel}
 use Rattle.ccnet_frame.proofs.Frames.{passed}

@@ -4,7 +4,6 @@ use mathlib.Core.Path.{◌≡◌, refl, sym, ap, ◌∙◌}
 use mathlib.Core.Bool.{false}
 use mathlib.Core.List.{List}
 use lib.ListN.{get_or}
-use Rattle.refusals.proofs.Rules.{holds-true}
 use Rattle.xor_frame.specs.Layout.{all_values}
 use Rattle.xor_frame.specs.Frame.{soh, code_of}
 use Rattle.xor_frame.proofs.Frames.{passed-known}

@@ -1,10 +1,9 @@
 -- A call that closes a command puts one byte at most and hands nothing over: so how often the command was handed over is still known. Assumes nothing.
 use Prim.Native.Nat.{ℕ, ◌+◌, ◌≤◌}
-use mathlib.Core.Path.{◌≡◌, refl, sym, ap, ◌∙◌, subst}
+use mathlib.Core.Path.{◌≡◌, refl, sym, ◌∙◌, subst}
 use mathlib.Core.Bool.{Bool, true, false, true≢false}
 use mathlib.Core.List.{List}
 use native.Mathlib.Omega.{arith}
-use lib.Dec.{lit≤}
 use lib.ListN.{set, take}
 use Rattle.refusals.specs.Rules.{under, same}
 use Rattle.refusals.proofs.Rules.{pick, either_way}

@@ -2,15 +2,14 @@
 -- Assumes nothing.
 use Prim.Native.Nat.{ℕ}
 use mathlib.Core.Path.{◌≡◌, refl, sym, ap, subst, ◌∙◌}
-use mathlib.Core.Bool.{Bool, true, false, cond, ◌||◌}
+use mathlib.Core.Bool.{Bool, true, false, cond}
 use mathlib.Core.List.{List, [], ◌∷◌}
 use native.Mathlib.Omega.{arith}
-use lib.Dec.{eqb}
 use lib.ListN.{take}
-use Rattle.ledger.specs.Events.{Deed, asks, hears, waits, own, Left, goes_on, closes, declined, done, History}
-use Rattle.ledger.specs.Account.{Ending, answered, refused, unknown, Fate, waiting, answered_by, turned_down, in_doubt, fate_after, Command, followed, commands, counted, last_of}
+use Rattle.ledger.specs.Events.{Deed, asks, hears, waits, own, Left, goes_on, closes, done, History}
+use Rattle.ledger.specs.Account.{Ending, answered, refused, unknown, Fate, waiting, answered_by, turned_down, in_doubt, fate_after, Command, followed, commands, last_of}
 use Rattle.ledger.specs.Calls.{told, seen, history_from}
-use Rattle.ledger.specs.Told.{by_answer, AnsweredBy, Verdict, good}
+use Rattle.ledger.specs.Told.{AnsweredBy}
 use Rattle.exchange_rules.specs.Machine.{discipline}
 use Rattle.exchange_rules.proofs.Demand3.{Kept, next-kept, call-carries}
 use Rattle.error_codes.specs.Errors.{error_class}
@@ -24,12 +23,11 @@ use Rattle.dispenser_frame_rules.specs.declared.answer.Answer.{Answer}
 use Rattle.dispenser_frame_rules.specs.declared.answer.Answer.TheVariants.{Purged, PaidOne, PaidBoth, Tested, Status}
 use Rattle.dispenser_rules.specs.Session.{fresh_session}
 use Rattle.dispenser_rules.specs.Calls.{Call, called, Request, Own, deed, returned, ending, host}
-use Rattle.dispenser_rules.specs.Unit.{model2000_t, unit, Good}
+use Rattle.dispenser_rules.specs.Unit.{model2000_t, unit}
 use Rattle.dispenser_rules.specs.Errors.{no_errors, last_of as last_for, erred_by_answer, erred_by, errors_from, tells, told_by, last_error_in, ErrorsByHistory}
 use Rattle.dispenser_rules.specs.declared.errors.LastError.{LastError}
-use Rattle.dispenser_rules.specs.declared.errors.LastError.TheVariants.{NoneYet, Of}
+use Rattle.dispenser_rules.specs.declared.errors.LastError.TheVariants.{Of}
 use Rattle.dispenser_rules.specs.declared.errors.LastErrors.{LastErrors}
-use Rattle.dispenser_rules.specs.declared.session.Closing.{Closing}
 use Rattle.dispenser_rules.specs.declared.session.Closing.TheVariants.{Nothing, Answered, Refused, Unknown}
 use Rattle.dispenser_rules.specs.declared.session.Reply.{Reply}
 use Rattle.dispenser_rules.specs.declared.session.Reply.TheVariants.{NotDone, Done}

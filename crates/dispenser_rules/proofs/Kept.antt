@@ -5,24 +5,22 @@ use mathlib.Core.Bool.{Bool, true, false, cond, true≢false}
 use mathlib.Core.List.{List, [], ◌∷◌}
 use mathlib.Core.Logic.{◌⊎◌, inl, inr, ⊎_elim}
 use native.Mathlib.Omega.{arith}
-use lib.Dec.{ltb}
 use lib.ListN.{length, take, length-take}
-use lib.Seq.{take_at}
 use Rattle.refusals.specs.Rules.{under, at_most}
 use Rattle.refusals.specs.Put.{over}
 use Rattle.refusals.proofs.Writing.{take-over}
 use Rattle.refusals.proofs.Rules.{by_cases, either_way, certain, holds-true, fails-false}
 use Rattle.ledger.specs.Events.{Deed, asks, hears, waits, own, goes_on, closes as closes_by, done, History, is_frame, bytes}
 use Rattle.ledger.specs.Line.{is_open}
-use Rattle.ledger.specs.Account.{Ending, answered, refused, unknown, Fate, waiting, answered_by, turned_down, in_doubt, fate_after, last_of, Command, commands, counted}
+use Rattle.ledger.specs.Account.{Ending, answered, refused, unknown, Fate, waiting, answered_by, fate_after, last_of, Command, commands, counted}
 use Rattle.ledger.specs.Calls.{told, seen, run, history_from}
-use Rattle.ledger.specs.Told.{Closing as PlainClosing, none, Due, nothing, due_by, while_open, Answers, AnsweredBy}
+use Rattle.ledger.specs.Told.{none, Due, nothing, due_by, while_open, Answers, AnsweredBy}
 use Rattle.ledger.proofs.Laws.{OnLine, line-open, commands-still, commands-own, commands-again, commands-closed}
-use Rattle.ledger.proofs.Follows.{as-open, OpenIn, IdleIn, At, while-shut}
+use Rattle.ledger.proofs.Follows.{as-open, OpenIn, At, while-shut}
 use Rattle.exchange_rules.specs.Machine.{Box, Handed, discipline}
 use Rattle.exchange_rules.specs.Sums.{notes}
 use Rattle.exchange_rules.proofs.Views.{stage, view, rules, Tracks}
-use Rattle.exchange_rules.proofs.Demand3.{Kept, next-kept, call-told, call-carries, run-kept}
+use Rattle.exchange_rules.proofs.Demand3.{Kept, next-kept, call-told, call-carries}
 use Rattle.exchange_rules.specs.declared.line.Phase.{Phase}
 use Rattle.exchange_rules.specs.declared.line.Phase.TheVariants.{Idle, First, Start, Inside}
 use Rattle.exchange_rules.specs.declared.line.Line.{Line}
@@ -31,11 +29,10 @@ use Rattle.dispenser_frame_rules.specs.Answer.{answer_code, read_answer}
 use Rattle.dispenser_frame_rules.specs.declared.answer.Cassette.TheVariants.{Upper, Lower}
 use Rattle.dispenser_frame_rules.specs.declared.answer.Answer.{Answer}
 use Rattle.dispenser_frame_rules.specs.declared.answer.Answer.TheVariants.{Purged, PaidOne, PaidBoth, Tested, Status}
-use Rattle.dispenser_rules.specs.Account.{account_opened}
-use Rattle.dispenser_rules.specs.Requests.{advanced, newest_slot, slots_after, oldest_first}
-use Rattle.dispenser_rules.specs.Session.{pays, command, paid_by, wrote, written_at, requests_at, place_after, account_asked, account_heard, fresh_session, OpeningAfter, StepAfter, opening_after, refused_opening, request_refusals, request_step, byte_step, tick_step, hand_over, clear_refusals, refused_step, clear_step, session_request, session_byte, session_tick, session_clear}
+use Rattle.dispenser_rules.specs.Requests.{advanced, newest_slot, slots_after}
+use Rattle.dispenser_rules.specs.Session.{pays, paid_by, wrote, requests_at, place_after, account_asked, account_heard, fresh_session, OpeningAfter, opening_after, refused_opening, request_refusals, request_step, byte_step, tick_step, hand_over, clear_refusals, refused_step, clear_step, session_request, session_byte, session_tick, session_clear}
 use Rattle.dispenser_rules.specs.Calls.{Call, request, byte, tick, clear, called, Request, Own, clears, returned, ending, host, history}
-use Rattle.dispenser_rules.specs.Unit.{exit_of, two, model2000_t, layout, unit, Good, asked_of, request_of, box, lent, plain_closing}
+use Rattle.dispenser_rules.specs.Unit.{two, model2000_t, layout, unit, Good, asked_of, request_of, box, plain_closing}
 use Rattle.dispenser_rules.specs.Kept.{stands, entry_of, entries, at_place, KeptByHistory}
 use Rattle.dispenser_rules.specs.declared.account.Cassettes.{Cassettes}
 use Rattle.dispenser_rules.specs.declared.requests.Standing.{Standing}
@@ -53,7 +50,7 @@ use Rattle.dispenser_rules.proofs.Shown.{lawful, Says, says, answers_by}
 use Rattle.dispenser_rules.proofs.Same.{session}
 use Rattle.dispenser_rules.proofs.Demand3.{fresh_kept}
 use Rattle.dispenser_rules.proofs.Ring.{Holds, fresh_holds, push, settle, held-list, held_at}
-use Rattle.dispenser_rules.proofs.Closings.{closes, put_by, Closed, byte-step-closed, tick-step-closed}
+use Rattle.dispenser_rules.proofs.Closings.{closes, put_by, byte-step-closed, tick-step-closed}
 
 -- ---- lists of commands
 

@@ -1,22 +1,21 @@
 -- The ring of the kept requests: one more request pushes out the oldest, the newest is written over, and what stands at a place. Assumes nothing.
 use Prim.Native.Nat.{ℕ, zero, suc, ◌+◌, ◌-◌, ◌≤◌, ◌<◌}
-use mathlib.Core.Path.{◌≡◌, refl, sym, ap, ◌∙◌, subst}
+use mathlib.Core.Path.{◌≡◌, refl, sym, ap, ◌∙◌}
 use mathlib.Core.Bool.{cond}
-use mathlib.Core.List.{List, [], ◌∷◌, ◌++◌, reverse, append-nil, append_assoc, reverse-cons, reverse-append, reverse-reverse}
+use mathlib.Core.List.{List, [], ◌∷◌, ◌++◌, reverse, append-nil, append_assoc, reverse-append, reverse-reverse}
 use native.Mathlib.Omega.{arith}
 use native.Mathlib.Nat.{not-suc-le-zero, le_of_suc-le-suc}
 use native.Mathlib.Numerals.{add-one}
-use lib.Dec.{ltb, eqb}
-use lib.ListN.{length, get_or, take, drop, set, replicate, take-append-drop, length-append, length-drop, length-set, length-reverse, length-replicate, drop_of_length-le, get_or-append}
+use lib.Dec.{ltb}
+use lib.ListN.{length, get_or, take, drop, set, take-append-drop, length-append, length-drop, length-set, length-reverse, length-replicate, drop_of_length-le, get_or-append}
 use lib.Seq.{length-take-le, take_all, take_at, take-take, drop-cons, drop-drop, drop-append-le, drop-set-lt, take-suc-set, set-get_or, get_or-drop, get_or-take, get_or-append-add}
 use Rattle.refusals.specs.Rules.{under, at_most, same}
 use Rattle.refusals.proofs.Rules.{by_cases, cond-true, cond-false, holds-true, fails-false}
-use Rattle.dispenser_rules.specs.Requests.{most, place, no_request, fresh_requests, advanced, slot_behind, one_more, newest_slot, slots_after, turned, oldest_first, around, kept_at}
+use Rattle.dispenser_rules.specs.Requests.{place, no_request, fresh_requests, advanced, slot_behind, one_more, newest_slot, slots_after, turned, oldest_first, around, kept_at}
 use Rattle.dispenser_rules.specs.Kept.{at_place}
 use Rattle.dispenser_rules.specs.declared.requests.KeptRequest.{KeptRequest}
 use Rattle.dispenser_rules.specs.declared.requests.Place.{Place}
 use Rattle.dispenser_rules.specs.declared.requests.Requests.{Requests}
-use Rattle.dispenser_rules.specs.declared.requests.KeptAt.{KeptAt}
 use Rattle.dispenser_rules.specs.declared.requests.KeptAt.TheVariants.{Nothing, Request}
 
 -- ---- lists

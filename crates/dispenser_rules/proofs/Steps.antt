@@ -1,7 +1,7 @@
 -- What a call does where all goes well, one law for each phase and call: for whoever reasons about the other end of the line. Assumes nothing.
 use Prim.Native.Nat.{ℕ, ◌+◌, ◌-◌, ◌≤◌, ◌<◌}
 use mathlib.Core.Path.{◌≡◌, refl, sym, ap, ◌∙◌, subst}
-use mathlib.Core.Bool.{Bool, true}
+use mathlib.Core.Bool.{true}
 use mathlib.Core.List.{List, []}
 use mathlib.Core.Logic.{⊎_elim}
 use native.Mathlib.Omega.{arith}
@@ -14,7 +14,7 @@ use Rattle.dispenser_frame_rules.specs.declared.answer.Answer.{Answer}
 use Rattle.dispenser_frame_rules.specs.declared.answer.AnswerRead.{AnswerRead}
 use Rattle.dispenser_frame_rules.specs.declared.answer.AnswerRead.TheVariants.{Read}
 use Rattle.exchange_rules.specs.Limits.{quiet, answer_wait, frame_wait}
-use Rattle.exchange_rules.specs.Exchange.{is_open, turn, hearing, opened, closed, doubted, ends, starting, inside, waits, first_byte, start_byte, inside_byte, heard_in, heard, expired_in, expired, passed}
+use Rattle.exchange_rules.specs.Exchange.{is_open, turn, opened, closed, doubted, ends, starting, inside, waits, first_byte, start_byte, inside_byte, heard_in, heard, expired_in, expired, passed}
 use Rattle.dispenser_rules.specs.Session.{pays, StepAfter, ByteAfter, OpeningAfter, After, opening_after, refused_opening, hand_over, command, request_refusals, request_step, account_asked, session_request, step_after, byte_after, refused_step, acted, judged_step, judge_step, byte_acted, byte_refusals, tick_refusals, byte_step, tick_step, account_heard, session_byte, session_tick, clear_refusals, clear_step, session_clear}
 use Rattle.dispenser_rules.specs.Calls.{host}
 use Rattle.ledger.specs.Account.{answered}

@@ -26,7 +26,7 @@ use Rattle.ledger.proofs.Laws.{OnLine, since-more}
 use Rattle.ledger.proofs.Waiting.{some_more, some-added, some-long, begun-sent, waited-sent, begun-tick, waited-tick, begun-next, begun-came, unbegun-first, waited-first, waited-start, waited-skip, waited-inside}
 use Rattle.ledger.proofs.Follows.{OpenIn, IdleIn, FirstIn, StartIn, At, Follows, View, declined-follows, open-still, idle-still, still-follows, open_kept, fate-by, again-follows, closes-follows, opened-follows, least, cleared-follows, idle}
 use Rattle.exchange_rules.specs.Limits.{answer_wait, nak_wait, frame_wait, hand_overs, nak_limit}
-use Rattle.exchange_rules.specs.Exchange.{is_open, turn, hearing, closed, handed_again, starting, inside as within, waits, first_byte, bad_frame, start_byte, inside_byte, heard_in, heard, expired_in, expired, passed}
+use Rattle.exchange_rules.specs.Exchange.{is_open, turn, hearing, handed_again, starting, inside as within, waits, first_byte, bad_frame, start_byte, inside_byte, heard_in, heard, expired_in, expired, passed}
 use Rattle.exchange_rules.specs.Machine.{Model, Reply, Box, StepAfter, done_after, shut, acted, bad_step, judged_step, judge_step, byte_acted, byte_refusals, tick_refusals, request_refusals, next, opening, left, called-request, heard_step, called-byte, called-tick, clear_refusals, cleared, called-clear, plain}
 use Rattle.exchange_rules.specs.Kept.{Live, settled, Sound}
 use Rattle.exchange_rules.specs.Owed.{Lawful}

@@ -2,10 +2,10 @@
 use Prim.Native.Nat.{ℕ, zero, suc, ◌+◌}
 use mathlib.Core.Path.{◌≡◌, refl, ◌∙◌}
 use mathlib.Core.Bool.{Bool, true, false, cond}
-use mathlib.Core.List.{List, [], ◌∷◌}
+use mathlib.Core.List.{List, ◌∷◌}
 use native.Mathlib.Numerals.{add-one}
 use lib.ListN.{take}
-use Rattle.ledger.specs.Account.{Ending, answered, refused, unknown, Fate, waiting, fate_after, Command}
+use Rattle.ledger.specs.Account.{Ending, answered, refused, unknown, waiting, fate_after, Command}
 use Rattle.ledger.specs.Events.{closes}
 use Rattle.ledger.specs.Stopped.{onward, unknowns}
 

@@ -1,10 +1,10 @@
 -- `ccnet_check::check_of` meets its contract: the bytes left, after the check so far, give the check of all. Assumes nothing.
-use mathlib.Core.Path.{◌≡◌, refl}
-use Prim.Native.Nat.{◌-◌, ◌≤◌, ◌<◌}
+use mathlib.Core.Path.{refl}
+use Prim.Native.Nat.{◌-◌, ◌<◌}
 use native.Mathlib.Numerals.{add-one}
-use lib.ListN.{length, drop}
+use lib.ListN.{length}
 use lib.Seq.{drop-cons}
-use Rattle.ccnet_check.specs.Check.{check_from, check}
+use Rattle.ccnet_check.specs.Check.{check}
 use Rattle.ccnet_check.proofs.Checks.{check-next, check-end}
 use borrow.Author.Rules.{rules}
 use native.Mathlib.Omega.{arith}

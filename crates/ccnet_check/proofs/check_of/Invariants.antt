@@ -1,13 +1,8 @@
 -- `ccnet_check::check_of` meets its contract: the bytes left, after the check so far, give the check of all. Assumes nothing.
-use mathlib.Core.Path.{◌≡◌, refl}
-use Prim.Native.Nat.{◌-◌, ◌≤◌, ◌<◌}
-use native.Mathlib.Numerals.{add-one}
+use mathlib.Core.Path.{◌≡◌}
+use Prim.Native.Nat.{◌-◌, ◌≤◌}
 use lib.ListN.{length, drop}
-use lib.Seq.{drop-cons}
 use Rattle.ccnet_check.specs.Check.{check_from, check}
-use Rattle.ccnet_check.proofs.Checks.{check-next, check-end}
-use borrow.Author.Rules.{rules}
-use native.Mathlib.Omega.{arith}
 use Rattle.ccnet_check.proofs.check_of.Given as goal
 
 abbrev pub invariant-loop-i : goal.invariant-loop-i

@@ -4,10 +4,8 @@ use Prim.Native.Nat.{ℕ, ◌*◌, ◌/◌, ◌%◌, ◌<◌}
 use native.Mathlib.Nat.{mod-lt, mod-eq_of_lt}
 use lib.Dec.{lit<}
 use lib.Bits.{bit_xor}
-use Rattle.ccnet_check.specs.Check.{turns}
-use Rattle.ccnet_check.proofs.WholeByte.{spread, shifted, turns-byte, spread-within}
+use Rattle.ccnet_check.proofs.WholeByte.{shifted, turns-byte, spread-within}
 use native.Mathlib.Omega.{arith}
-use borrow.Author.Rules.{rules}
 use Rattle.ccnet_check.proofs.with_byte.Goals as goal
 
 -- shifted within 16 bits, a number below 256 loses nothing

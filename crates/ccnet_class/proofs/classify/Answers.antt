@@ -1,7 +1,6 @@
 -- `ccnet_class::classify` meets its contract: by how many bytes the body has. Assumes nothing.
 use mathlib.Core.Path.{◌∙◌}
 use Rattle.ccnet_class.proofs.Classes.{class-one, class-two, class-none}
-use borrow.Author.Rules.{rules}
 use Rattle.ccnet_class.proofs.classify.Goals as goal
 
 pub returns-then-n-eq1 : goal.returns-then-n-eq1

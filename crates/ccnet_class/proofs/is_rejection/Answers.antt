@@ -1,5 +1,4 @@
 -- `ccnet_class::is_rejection` meets its contract: each return is at the first test that holds. Assumes nothing.
-use borrow.Author.Rules.{rules}
 use Rattle.ccnet_class.proofs.is_rejection.Goals as goal
 
 pub returns-then-byte_within : goal.returns-then-byte_within

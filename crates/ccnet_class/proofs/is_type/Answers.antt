@@ -1,5 +1,4 @@
 -- `ccnet_class::is_type` meets its contract. Assumes nothing.
-use borrow.Author.Rules.{rules}
 use Rattle.ccnet_class.proofs.is_type.Goals as goal
 
 pub returns : goal.returns

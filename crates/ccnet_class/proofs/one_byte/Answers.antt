@@ -1,7 +1,6 @@
 -- `ccnet_class::one_byte` meets its contract: each return is at the first rule that applies. Assumes nothing.
 use Rattle.refusals.proofs.Rules.{tests}
 use Rattle.ccnet_class.specs.Class.{one_byte}
-use borrow.Author.Rules.{rules}
 use Rattle.ccnet_class.proofs.one_byte.Goals as goal
 
 pub returns-then-b-eq0 : goal.returns-then-b-eq0

@@ -2,7 +2,6 @@
 use mathlib.Core.Path.{◌∙◌}
 use Rattle.refusals.proofs.Rules.{tests}
 use Rattle.ccnet_class.specs.Class.{two_bytes}
-use borrow.Author.Rules.{rules}
 use Rattle.ccnet_class.proofs.two_bytes.Goals as goal
 
 pub returns-then-a-eq27 : goal.returns-then-a-eq27

@@ -5,7 +5,6 @@ use Prim.Native.Nat.{ℕ, ◌-◌}
 use lib.ListN.{length, take, drop}
 use Rattle.ccnet_frame.proofs.Frames.{good-long}
 use native.Mathlib.Omega.{arith}
-use borrow.Author.Rules.{rules}
 use Rattle.ccnet_frame.proofs.body.Goals as goal
 
 pub overflow_sub-end : goal.overflow_sub-end

@@ -4,7 +4,6 @@ use lib.Dec.{eqb}
 use lib.ListN.{length}
 use Rattle.ccnet_frame.specs.Frame.{is_sized, judge_frame}
 use Rattle.ccnet_frame.proofs.Frames.{sized-by}
-use borrow.Author.Rules.{rules}
 use Rattle.ccnet_frame.proofs.judge.Goals as goal
 
 pub returns : goal.returns

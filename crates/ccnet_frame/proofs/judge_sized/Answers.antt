@@ -5,7 +5,6 @@ use borrow.Author.Tests.{le-ltb, eq-eqb, ne_eqb}
 use Rattle.refusals.proofs.Rules.{tests}
 use Rattle.ccnet_frame.specs.Frame.{judge_sized}
 use native.Mathlib.Omega.{arith}
-use borrow.Author.Rules.{rules}
 use Rattle.ccnet_frame.proofs.judge_sized.Goals as goal
 
 pub returns-then-n-lt6 : goal.returns-then-n-lt6

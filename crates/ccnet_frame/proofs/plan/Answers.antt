@@ -1,7 +1,6 @@
 -- `ccnet_frame::plan` meets its contract: each return is at the first rule that applies. Assumes nothing.
 use Rattle.refusals.proofs.Rules.{tests}
 use Rattle.ccnet_frame.specs.Parts.{planned}
-use borrow.Author.Rules.{rules}
 use Rattle.ccnet_frame.proofs.plan.Goals as goal
 
 pub returns-then-not-sized : goal.returns-then-not-sized

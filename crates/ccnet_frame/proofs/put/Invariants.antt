@@ -1,18 +1,11 @@
 -- `ccnet_frame::put` meets its contract: the room's first i bytes, and the bytes left laid from there on, are all the bytes laid
 -- from the start; and those left, after the check so far, give the check after all. Assumes nothing.
-use mathlib.Core.Path.{◌≡◌, refl, ◌∙◌}
+use mathlib.Core.Path.{◌≡◌}
 use mathlib.Core.List.{◌++◌}
-use Prim.Native.Nat.{◌-◌, ◌≤◌, ◌<◌}
-use native.Mathlib.Numerals.{add-one}
-use lib.ListN.{length, take, drop, length-set}
-use lib.Seq.{drop-cons}
+use Prim.Native.Nat.{◌-◌, ◌≤◌}
+use lib.ListN.{length, take, drop}
 use Rattle.refusals.specs.Put.{over}
-use Rattle.refusals.proofs.Writing.{over-one}
 use Rattle.ccnet_check.specs.Check.{check_from}
-use Rattle.ccnet_check.proofs.Checks.{check-next, check-end}
-use Rattle.ccnet_frame.proofs.Laying.{over-end}
-use borrow.Author.Rules.{rules}
-use native.Mathlib.Omega.{arith}
 use Rattle.ccnet_frame.proofs.put.Given as goal
 
 abbrev pub invariant-loop-i : goal.invariant-loop-i

@@ -1,7 +1,6 @@
 -- `ccnet_frame::write_ack` meets its contract: of a frame of one byte nothing but the room is asked. Assumes nothing.
 use mathlib.Core.Path.{◌∙◌}
 use Rattle.ccnet_frame.proofs.Planned.{one-byte-written}
-use borrow.Author.Rules.{rules}
 use Rattle.ccnet_frame.proofs.write_ack.Goals as goal
 
 pub returns : goal.returns

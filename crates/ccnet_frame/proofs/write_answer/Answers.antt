@@ -2,7 +2,6 @@
 use mathlib.Core.Path.{refl, sym, ◌∙◌}
 use Rattle.ccnet_frame.proofs.Planned.{body_refused, body-fit}
 use native.Mathlib.Omega.{arith}
-use borrow.Author.Rules.{rules}
 use Rattle.ccnet_frame.proofs.write_answer.Goals as goal
 
 pub overflow_cast-length_byte : goal.overflow_cast-length_byte

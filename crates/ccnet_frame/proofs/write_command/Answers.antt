@@ -4,7 +4,6 @@ use mathlib.Core.Path.{sym, ◌∙◌}
 use mathlib.Core.List.{◌∷◌}
 use Rattle.ccnet_frame.proofs.Planned.{body_refused, body-fit}
 use native.Mathlib.Omega.{arith}
-use borrow.Author.Rules.{rules}
 use Rattle.ccnet_frame.proofs.write_command.Goals as goal
 
 pub overflow_cast-length_byte : goal.overflow_cast-length_byte

@@ -5,7 +5,6 @@ use native.Mathlib.Nat.{mul-le-mul, le_of_lt, mod-lt, zero-lt-suc}
 use Rattle.numbers.specs.Seven.{last_weight, group_after}
 use Rattle.refusals.proofs.Rules.{tests}
 use native.Mathlib.Omega.{arith}
-use borrow.Author.Rules.{rules}
 use borrow.Author.Tests.{le-leb}
 use Rattle.numbers.proofs.group_after.Goals as goal
 

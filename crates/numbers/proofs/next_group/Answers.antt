@@ -1,7 +1,6 @@
 -- `numbers::next_group` meets its contract. Assumes nothing.
 use Rattle.numbers.specs.Seven.{next_group}
 use Rattle.refusals.proofs.Rules.{tests}
-use borrow.Author.Rules.{rules}
 use Rattle.numbers.proofs.next_group.Goals as goal
 
 pub returns-then-w-acc : goal.returns-then-w-acc

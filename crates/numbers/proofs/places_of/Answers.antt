@@ -1,11 +1,8 @@
 -- `numbers::places_of` meets its contract. The invariant: k counts the rest as one digit, and with all the rest's digits it is how many
 -- n has. Assumes nothing.
-use mathlib.Core.Path.{◌≡◌}
-use Prim.Native.Nat.{ℕ, ◌+◌, ◌/◌, ◌≤◌, ◌<◌}
+use Prim.Native.Nat.{ℕ, ◌/◌, ◌≤◌, ◌<◌}
 use native.Mathlib.Nat.{div-lt_self}
 use native.Mathlib.Omega.{arith}
-use borrow.Author.Rules.{rules}
-use Rattle.numbers.specs.Decimal.{places}
 use Rattle.numbers.proofs.Decimal.{places-small, places-large}
 use Rattle.numbers.proofs.places_of.Goals as goal
 

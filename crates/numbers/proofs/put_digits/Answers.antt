@@ -2,13 +2,12 @@
 -- of n. Assumes nothing.
 use mathlib.Core.Path.{◌≡◌, refl, ◌∙◌}
 use mathlib.Core.List.{List, ◌++◌, append-nil}
-use Prim.Native.Nat.{ℕ, suc, ◌-◌, ◌/◌, ◌≤◌, ◌<◌}
+use Prim.Native.Nat.{ℕ, suc, ◌-◌, ◌/◌, ◌<◌}
 use native.Mathlib.Nat.{le_refl}
 use lib.ListN.{length, drop, set, length-set}
 use lib.Seq.{drop-length, drop-cons, append_snoc, lt-length-set, get_or-set_same, drop-set-lt}
 use Rattle.numbers.specs.Decimal.{digit_of, digits}
 use Rattle.numbers.proofs.Decimal.{digits-none, digits_last}
-use borrow.Author.Rules.{rules}
 use native.Mathlib.Omega.{arith}
 use Rattle.numbers.proofs.put_digits.Goals as goal
 

@@ -1,10 +1,10 @@
 -- `numbers::read_digits` meets its contract. The invariant: n has at most i digits, and what is left to read, after n, says the number
 -- of the whole, and is all digits exactly where the whole is. Assumes nothing.
-use mathlib.Core.Path.{◌≡◌, refl, sym, ◌∙◌}
-use Prim.Native.Nat.{◌^◌, ◌≤◌, ◌<◌, ◌-◌}
+use mathlib.Core.Path.{refl, sym, ◌∙◌}
+use Prim.Native.Nat.{◌≤◌, ◌<◌}
 use native.Mathlib.Numerals.{add-one}
-use lib.ListN.{length, drop, get_or}
-use Rattle.numbers.specs.Decimal.{digits_only, number_from, number, read_digits}
+use lib.ListN.{length, get_or}
+use Rattle.numbers.specs.Decimal.{number, read_digits}
 use Rattle.numbers.proofs.Decimal.{number-end, number_at, only_end, only_at, one_more, pow-most}
 use Rattle.refusals.proofs.Rules.{tests}
 use borrow.Author.Rules.{rules}

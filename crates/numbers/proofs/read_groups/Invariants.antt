@@ -1,12 +1,10 @@
 -- `numbers::read_groups` meets its contract. The invariant: reading on from i, after what the groups before it say, gives what reading
 -- from the start gives. Assumes nothing.
-use mathlib.Core.Path.{◌≡◌, refl, sym, ◌∙◌, subst}
+use mathlib.Core.Path.{◌≡◌}
 use Prim.Native.Nat.{◌-◌, ◌≤◌, ◌<◌}
 use lib.ListN.{length, drop}
 use Rattle.numbers.specs.Seven.{read_from, read_groups}
-use Rattle.numbers.proofs.Groups.{Weight, first-weight, weight-most, Found, found, found-more, read-end, read_at}
-use borrow.Author.Rules.{rules}
-use native.Mathlib.Numerals.{add-one}
+use Rattle.numbers.proofs.Groups.{Weight}
 use Rattle.numbers.proofs.read_groups.Given as goal
 
 abbrev pub invariant-loop-i : goal.invariant-loop-i

@@ -6,7 +6,6 @@ use native.Mathlib.Nat.{sub-zero}
 use native.Mathlib.Omega.{arith}
 use lib.ListN.{length, take, drop}
 use lib.Seq.{length-take-le}
-use borrow.Author.Rules.{rules}
 use Rattle.refusals.specs.Put.{over}
 use Rattle.numbers.specs.Decimal.{digits, width, decimal}
 use Rattle.numbers.proofs.Decimal.{length_digits, length-decimal}

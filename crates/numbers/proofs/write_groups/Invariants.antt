@@ -1,17 +1,11 @@
 -- `numbers::write_groups` meets its contract. The invariant: the room's first i bytes, and the groups of the rest laid from there on,
 -- are the groups of n laid from the start. Assumes nothing.
-use mathlib.Core.Path.{◌≡◌, refl, sym, ap, ◌∙◌}
-use mathlib.Core.List.{[], ◌∷◌, ◌++◌}
-use Prim.Native.Nat.{ℕ, ◌+◌, ◌/◌, ◌%◌, ◌≤◌, ◌<◌}
-use native.Mathlib.Nat.{mod-eq_of_lt}
-use native.Mathlib.Numerals.{add-one}
-use lib.ListN.{length, take, drop, length-set}
+use mathlib.Core.Path.{◌≡◌}
+use mathlib.Core.List.{◌++◌}
+use Prim.Native.Nat.{◌+◌, ◌≤◌}
+use lib.ListN.{length, take, drop}
 use Rattle.refusals.specs.Put.{over}
 use Rattle.numbers.specs.Seven.{groups}
-use Rattle.numbers.proofs.Groups.{groups-small, groups-large, groups-some, length-groups}
-use Rattle.refusals.proofs.Writing.{writing-refused, writing-laid, over-one, over_last}
-use borrow.Author.Rules.{rules}
-use native.Mathlib.Omega.{arith}
 use Rattle.numbers.proofs.write_groups.Given as goal
 
 abbrev pub invariant-loop-rest : goal.invariant-loop-rest

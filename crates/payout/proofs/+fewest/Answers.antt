@@ -1,11 +1,11 @@
 -- `payout::fewest` meets its contract. Assumes nothing.
 use native.Mathlib.Omega.{arith}
 use native.Mathlib.Nat.{add-mul, one-mul, zero-mul}
-use Prim.Native.Nat.{ℕ, ◌+◌, ◌-◌, ◌*◌, ◌≤◌, ◌<◌}
+use Prim.Native.Nat.{ℕ, ◌-◌, ◌≤◌, ◌<◌}
 use mathlib.Core.Path.{◌≡◌, ap, ◌∙◌}
-use lib.ListN.{length, get_or}
-use Rattle.payout.specs.Scaffolding.{Answer, lesser}
-use Rattle.payout.proofs.Turn.{Below, most, lesser-under, turns, ends-most, ends-left, base-some, base-none, start, notes-few}
+use lib.ListN.{get_or}
+use Rattle.payout.specs.Scaffolding.{lesser}
+use Rattle.payout.proofs.Turn.{most, lesser-under, turns, ends-most, ends-left, base-some, base-none, start, notes-few}
 use Rattle.payout.proofs.+fewest.Goals as goal
 
 pub returns-then-amount-eq0 : goal.returns-then-amount-eq0

@@ -1,6 +1,5 @@
 -- `payout::better_of` meets its contract. Assumes nothing.
 use native.Mathlib.Omega.{arith}
-use borrow.Author.Rules.{rules}
 use borrow.Author.Tests.{le-leb, lt-leb}
 use Rattle.payout.specs.Scaffolding.{better}
 use Rattle.payout.proofs.better_of.Goals as goal

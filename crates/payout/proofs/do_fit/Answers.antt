@@ -1,10 +1,7 @@
 -- `payout::do_fit` meets its contract: whether the cassettes from i on fit is whether all of them do. Assumes nothing.
 use native.Mathlib.Omega.{arith}
-use Prim.Native.Nat.{◌≤◌, ◌-◌}
-use mathlib.Core.Path.{◌≡◌, sym, ◌∙◌}
-use lib.ListN.{length, drop}
-use borrow.Author.Rules.{rules}
-use Rattle.payout.specs.Plan.{cassettes_fit}
+use Prim.Native.Nat.{◌-◌}
+use mathlib.Core.Path.{sym, ◌∙◌}
 use Rattle.payout.proofs.Range.{fit-step, fit-end}
 use Rattle.payout.proofs.do_fit.Goals as goal
 

@@ -1,6 +1,5 @@
 -- `payout::does_fit` meets its contract. Assumes nothing.
 use mathlib.Core.Path.{sym, ◌∙◌}
-use borrow.Author.Rules.{rules}
 use Rattle.payout.proofs.does_fit.Goals as goal
 
 pub returns-then-count_within : goal.returns-then-count_within

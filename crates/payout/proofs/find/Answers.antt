@@ -1,7 +1,6 @@
 -- `payout::find` meets its contract. Assumes nothing.
 use native.Mathlib.Omega.{arith}
 use mathlib.Core.Path.{refl, sym, ◌∙◌}
-use borrow.Author.Rules.{rules}
 use Rattle.payout.specs.Plan.{in_range}
 use Rattle.payout.proofs.Planned.{few-enough, four-else, right-refused, right-two, right-four}
 use Rattle.payout.proofs.find.Goals as goal

@@ -1,6 +1,5 @@
 -- `payout::is_in_range` meets its contract: each return is at the first test that fails. Assumes nothing.
 use mathlib.Core.Path.{sym, ◌∙◌}
-use borrow.Author.Rules.{rules}
 use borrow.Author.Tests.{le-leb, lt-leb, eq-eqb, ne_eqb}
 use Rattle.payout.specs.Plan.{in_range}
 use Rattle.payout.proofs.is_in_range.Goals as goal

@@ -1,5 +1,4 @@
 -- `payout::plan_of` meets its contract. Assumes nothing.
-use borrow.Author.Rules.{rules}
 use Rattle.payout.proofs.plan_of.Goals as goal
 
 pub returns-in-Nothing : goal.returns-in-Nothing

@@ -1,5 +1,4 @@
 -- `dispenser_books::account::answered` meets its contract, kind by kind of answer. Assumes nothing.
-use borrow.Author.Rules.{rules}
 use Rattle.dispenser_books.proofs.account.answered.Goals as goal
 
 pub returns-in-PaidOne : goal.returns-in-PaidOne

@@ -1,6 +1,5 @@
 -- `dispenser_books::account::closed_refused` meets its contract. Assumes nothing.
 use Rattle.dispenser_rules.specs.Account.{account_refused}
-use borrow.Author.Rules.{rules}
 use Rattle.dispenser_books.proofs.account.closed_refused.Goals as goal
 
 pub returns : goal.returns

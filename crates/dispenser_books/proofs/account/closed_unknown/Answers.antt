@@ -1,6 +1,5 @@
 -- `dispenser_books::account::closed_unknown` meets its contract. Assumes nothing.
 use Rattle.dispenser_rules.specs.Account.{account_unknown}
-use borrow.Author.Rules.{rules}
 use Rattle.dispenser_books.proofs.account.closed_unknown.Goals as goal
 
 pub returns : goal.returns

@@ -1,6 +1,5 @@
 -- `dispenser_books::account::opened` meets its contract. Assumes nothing.
 use Rattle.dispenser_rules.specs.Account.{account_opened}
-use borrow.Author.Rules.{rules}
 use Rattle.dispenser_books.proofs.account.opened.Goals as goal
 
 pub returns : goal.returns

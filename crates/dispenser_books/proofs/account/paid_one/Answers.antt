@@ -1,5 +1,4 @@
 -- `dispenser_books::account::paid_one` meets its contract. Assumes nothing.
-use borrow.Author.Rules.{rules}
 use Rattle.dispenser_books.proofs.account.paid_one.Goals as goal
 
 pub returns-in-Upper : goal.returns-in-Upper

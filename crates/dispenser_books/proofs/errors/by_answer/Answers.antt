@@ -1,5 +1,4 @@
 -- `dispenser_books::errors::by_answer` meets its contract, answer by answer. Assumes nothing.
-use borrow.Author.Rules.{rules}
 use Rattle.dispenser_books.proofs.errors.by_answer.Goals as goal
 
 pub returns-in-PaidOne : goal.returns-in-PaidOne

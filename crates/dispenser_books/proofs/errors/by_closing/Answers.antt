@@ -1,5 +1,4 @@
 -- `dispenser_books::errors::by_closing` meets its contract, closing by closing. Assumes nothing.
-use borrow.Author.Rules.{rules}
 use Rattle.dispenser_books.proofs.errors.by_closing.Goals as goal
 
 pub returns-in-Answered : goal.returns-in-Answered

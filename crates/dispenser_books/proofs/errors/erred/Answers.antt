@@ -1,5 +1,4 @@
 -- `dispenser_books::errors::erred` meets its contract. Assumes nothing.
-use borrow.Author.Rules.{rules}
 use Rattle.dispenser_books.proofs.errors.erred.Goals as goal
 
 pub returns-in-Done : goal.returns-in-Done

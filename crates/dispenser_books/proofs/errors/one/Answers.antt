@@ -1,5 +1,4 @@
 -- `dispenser_books::errors::one` meets its contract, cassette by cassette. Assumes nothing.
-use borrow.Author.Rules.{rules}
 use Rattle.dispenser_books.proofs.errors.one.Goals as goal
 
 pub returns-in-Upper : goal.returns-in-Upper

@@ -1,5 +1,4 @@
 -- `dispenser_books::requests::advance` meets its contract. Assumes nothing.
-use borrow.Author.Rules.{rules}
 use Rattle.dispenser_books.proofs.requests.advance.Goals as goal
 
 pub returns-then-pays : goal.returns-then-pays

@@ -1,7 +1,6 @@
 -- `dispenser_books::requests::around` meets its contract. Assumes nothing.
 use Rattle.dispenser_rules.specs.Requests.{around}
 use borrow.Author.Tests.{le-ltb, lt-ltb}
-use borrow.Author.Rules.{rules}
 use Rattle.dispenser_books.proofs.requests.around.Goals as goal
 
 pub returns-then-slot-lt-MOST : goal.returns-then-slot-lt-MOST

@@ -1,6 +1,5 @@
 -- `dispenser_books::requests::asked` meets its contract. Assumes nothing.
 use Rattle.dispenser_rules.specs.Session.{account_asked}
-use borrow.Author.Rules.{rules}
 use Rattle.dispenser_books.proofs.requests.asked.Goals as goal
 
 pub returns : goal.returns

@@ -1,6 +1,5 @@
 -- `dispenser_books::requests::heard` meets its contract. Assumes nothing.
 use Rattle.dispenser_rules.specs.Session.{account_heard}
-use borrow.Author.Rules.{rules}
 use Rattle.dispenser_books.proofs.requests.heard.Goals as goal
 
 pub returns : goal.returns

@@ -1,7 +1,6 @@
 -- `dispenser_books::requests::newest_slot` meets its contract. Assumes nothing.
 use Rattle.dispenser_rules.specs.Requests.{newest_slot}
 use borrow.Author.Tests.{eq-eqb, ne_eqb}
-use borrow.Author.Rules.{rules}
 use Rattle.dispenser_books.proofs.requests.newest_slot.Goals as goal
 
 pub returns-then-place-eq0 : goal.returns-then-place-eq0

@@ -1,5 +1,4 @@
 -- `dispenser_books::requests::noted` meets its contract. Assumes nothing.
-use borrow.Author.Rules.{rules}
 use Rattle.dispenser_books.proofs.requests.noted.Goals as goal
 
 pub returns : goal.returns

@@ -1,7 +1,6 @@
 -- `dispenser_books::requests::one_more` meets its contract. Assumes nothing.
 use Rattle.dispenser_rules.specs.Requests.{one_more}
 use borrow.Author.Tests.{le-ltb, lt-ltb}
-use borrow.Author.Rules.{rules}
 use Rattle.dispenser_books.proofs.requests.one_more.Goals as goal
 
 pub returns-then-held-lt-MOST : goal.returns-then-held-lt-MOST

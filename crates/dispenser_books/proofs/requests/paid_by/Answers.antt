@@ -1,5 +1,4 @@
 -- `dispenser_books::requests::paid_by` meets its contract. Assumes nothing.
-use borrow.Author.Rules.{rules}
 use Rattle.dispenser_books.proofs.requests.paid_by.Goals as goal
 
 pub returns-in-PaidOne : goal.returns-in-PaidOne

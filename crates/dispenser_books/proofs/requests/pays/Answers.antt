@@ -1,7 +1,6 @@
 -- `dispenser_books::requests::pays` meets its contract. Assumes nothing.
 use Rattle.refusals.proofs.Rules.{tests}
 use Rattle.dispenser_rules.specs.Session.{pays}
-use borrow.Author.Rules.{rules}
 use Rattle.dispenser_books.proofs.requests.pays.Goals as goal
 
 pub returns-then-code-eq-PAY_UPPER : goal.returns-then-code-eq-PAY_UPPER

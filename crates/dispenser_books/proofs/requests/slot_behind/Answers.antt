@@ -1,7 +1,6 @@
 -- `dispenser_books::requests::slot_behind` meets its contract. Assumes nothing.
 use Rattle.dispenser_rules.specs.Requests.{slot_behind}
 use borrow.Author.Tests.{le-ltb, lt-ltb}
-use borrow.Author.Rules.{rules}
 use Rattle.dispenser_books.proofs.requests.slot_behind.Goals as goal
 
 pub returns-then-slot-lt31 : goal.returns-then-slot-lt31

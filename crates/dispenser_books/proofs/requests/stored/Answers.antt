@@ -1,6 +1,5 @@
 -- `dispenser_books::requests::stored` meets its contract. Assumes nothing.
 use borrow.Author.Tests.{le-ltb, lt-ltb}
-use borrow.Author.Rules.{rules}
 use Rattle.dispenser_books.proofs.requests.stored.Goals as goal
 
 pub returns-then-slot-lt-MOST : goal.returns-then-slot-lt-MOST

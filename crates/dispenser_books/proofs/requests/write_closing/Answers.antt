@@ -1,6 +1,5 @@
 -- `dispenser_books::requests::write_closing` meets its contract. Assumes nothing.
 use borrow.Author.Tests.{le-ltb, lt-ltb}
-use borrow.Author.Rules.{rules}
 use Rattle.dispenser_books.proofs.requests.write_closing.Goals as goal
 
 pub returns-then-put-gt1 : goal.returns-then-put-gt1

@@ -1,5 +1,4 @@
 -- `dispenser_books::requests::write_down` meets its contract. Assumes nothing.
-use borrow.Author.Rules.{rules}
 use Rattle.dispenser_books.proofs.requests.write_down.Goals as goal
 
 pub returns-in-Done : goal.returns-in-Done

@@ -1,6 +1,5 @@
 -- `dispenser_books::requests::wrote` meets its contract. Assumes nothing.
 use Rattle.dispenser_rules.specs.Session.{wrote}
-use borrow.Author.Rules.{rules}
 use Rattle.dispenser_books.proofs.requests.wrote.Goals as goal
 
 pub returns-then-pays : goal.returns-then-pays

@@ -1,5 +1,4 @@
 -- `dispenser_frame::answer::code_of` meets its contract. Assumes nothing.
-use borrow.Author.Rules.{rules}
 use Rattle.dispenser_frame.proofs.answer.code_of.Goals as goal
 
 pub returns-in-PaidOne : goal.returns-in-PaidOne

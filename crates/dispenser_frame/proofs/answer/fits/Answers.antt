@@ -5,7 +5,6 @@ use Rattle.dispenser_frame_rules.specs.Table.{table, line_in}
 use Rattle.dispenser_frame_rules.specs.Answer.{answer_fits}
 use Rattle.dispenser_frame_rules.proofs.Codes.{pay-fields, test_fields, any-byte}
 use native.Mathlib.Omega.{arith}
-use borrow.Author.Rules.{rules}
 use Rattle.dispenser_frame.proofs.answer.fits.Goals as goal
 
 pub returns-in-Purged : goal.returns-in-Purged

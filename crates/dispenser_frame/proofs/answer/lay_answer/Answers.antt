@@ -7,7 +7,6 @@ use Rattle.dispenser_frame_rules.specs.Answer.{answer_frame}
 use Rattle.xor_frame.proofs.Check.{laid_by}
 use Rattle.dispenser_frame_rules.proofs.Codes.{pay-fields, test_fields}
 use native.Mathlib.Omega.{arith}
-use borrow.Author.Rules.{rules}
 use Rattle.dispenser_frame.proofs.answer.lay_answer.Goals as goal
 
 pub lay-requires : goal.lay-requires

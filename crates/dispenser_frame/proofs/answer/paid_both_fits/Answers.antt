@@ -2,7 +2,6 @@
 use mathlib.Core.Path.{◌≡◌, refl, ◌∙◌}
 use mathlib.Core.Bool.{Bool, true, false, ◌&&◌, and-false}
 use Rattle.xor_frame.specs.Layout.{all_in_range}
-use borrow.Author.Rules.{rules}
 use Rattle.dispenser_frame.proofs.answer.paid_both_fits.Goals as goal
 
 -- the tests of one cassette and then of the other, and those of both field by field; e, the error, is tested in each

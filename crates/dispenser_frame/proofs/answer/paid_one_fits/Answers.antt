@@ -2,7 +2,6 @@
 use mathlib.Core.Path.{◌∙◌}
 use mathlib.Core.Bool.{and_assoc}
 use Rattle.xor_frame.specs.Layout.{all_in_range}
-use borrow.Author.Rules.{rules}
 use Rattle.dispenser_frame.proofs.answer.paid_one_fits.Goals as goal
 
 pub returns : goal.returns

@@ -10,7 +10,6 @@ use Rattle.xor_frame.specs.Parts.{count_at}
 use Rattle.dispenser_frame_rules.specs.Table.{paid_both, paid_both_fields}
 use Rattle.dispenser_frame_rules.proofs.Raw.{fields-good, fields-bad}
 use Rattle.xor_frame.proofs.Raw.{raw_values}
-use borrow.Author.Rules.{rules}
 use Rattle.dispenser_frame.proofs.answer.read_paid_both.Goals as goal
 
 -- the test is that of the fields' ranges

@@ -8,7 +8,6 @@ use Rattle.xor_frame.specs.Layout.{in_range, all_in_range}
 use Rattle.dispenser_frame_rules.specs.Table.{error as error_field, purged, purged_fields}
 use Rattle.dispenser_frame_rules.proofs.Raw.{fields-good, fields-bad}
 use Rattle.xor_frame.proofs.Raw.{raw_values}
-use borrow.Author.Rules.{rules}
 use Rattle.dispenser_frame.proofs.answer.read_purged.Goals as goal
 
 -- the test is that of the field's range

@@ -12,7 +12,6 @@ use Rattle.dispenser_frame_rules.proofs.Raw.{fields-good, fields-bad, thirty-sam
 use Rattle.xor_frame.proofs.Raw.{raw_values}
 use Rattle.dispenser_frame_rules.proofs.Codes.{any-byte}
 use native.Mathlib.Omega.{arith}
-use borrow.Author.Rules.{rules}
 use Rattle.dispenser_frame.proofs.answer.read_status.Goals as goal
 
 -- the test is that of the fields' ranges

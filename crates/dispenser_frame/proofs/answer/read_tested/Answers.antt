@@ -11,7 +11,6 @@ use Rattle.xor_frame.specs.Parts.{count_at}
 use Rattle.dispenser_frame_rules.specs.Table.{tested, tested_fields}
 use Rattle.dispenser_frame_rules.proofs.Raw.{fields-good, fields-bad, thirty-same, fixed-first}
 use Rattle.xor_frame.proofs.Raw.{raw_values}
-use borrow.Author.Rules.{rules}
 use Rattle.dispenser_frame.proofs.answer.read_tested.Goals as goal
 
 -- the fixed bytes tested first

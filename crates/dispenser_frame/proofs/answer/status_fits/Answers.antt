@@ -1,6 +1,5 @@
 -- `dispenser_frame::answer::status_fits` meets its contract. Assumes nothing.
 use mathlib.Core.Path.{◌∙◌}
-use borrow.Author.Rules.{rules}
 use Rattle.dispenser_frame.proofs.answer.status_fits.Goals as goal
 
 pub returns : goal.returns

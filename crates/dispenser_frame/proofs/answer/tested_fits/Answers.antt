@@ -1,7 +1,6 @@
 -- `dispenser_frame::answer::tested_fits` meets its contract. Assumes nothing.
 use mathlib.Core.Path.{◌∙◌}
 use Rattle.xor_frame.specs.Layout.{all_in_range}
-use borrow.Author.Rules.{rules}
 use Rattle.dispenser_frame.proofs.answer.tested_fits.Goals as goal
 
 pub returns : goal.returns

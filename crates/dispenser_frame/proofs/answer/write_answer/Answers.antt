@@ -5,7 +5,6 @@ use Rattle.dispenser_frame_rules.specs.Table.{answer_length}
 use Rattle.dispenser_frame_rules.specs.Answer.{write_answer, answer_refusals}
 use Rattle.dispenser_frame_rules.proofs.Codes.{answer-sized}
 use native.Mathlib.Omega.{arith}
-use borrow.Author.Rules.{rules}
 use Rattle.dispenser_frame.proofs.answer.write_answer.Goals as goal
 
 pub returns-then-room-n : goal.returns-then-room-n

@@ -1,5 +1,4 @@
 -- `dispenser_frame::command::asked_count` meets its contract. Assumes nothing.
-use borrow.Author.Rules.{rules}
 use Rattle.dispenser_frame.proofs.command.asked_count.Goals as goal
 
 pub count-requires : goal.count-requires

@@ -1,6 +1,5 @@
 -- `dispenser_frame::command::belongs` meets its contract. Assumes nothing.
 use mathlib.Core.Path.{◌∙◌}
-use borrow.Author.Rules.{rules}
 use Rattle.dispenser_frame.proofs.command.belongs.Goals as goal
 
 pub returns-then-asked : goal.returns-then-asked

@@ -1,7 +1,6 @@
 -- `dispenser_frame::command::counts_fit` meets its contract. Assumes nothing.
 use mathlib.Core.Path.{◌∙◌}
 use Rattle.dispenser_frame_rules.specs.Command.{counts_fit}
-use borrow.Author.Rules.{rules}
 use Rattle.dispenser_frame.proofs.command.counts_fit.Goals as goal
 
 pub returns : goal.returns

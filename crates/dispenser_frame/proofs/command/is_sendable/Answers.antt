@@ -3,7 +3,6 @@ use mathlib.Core.Path.{sym, ◌∙◌}
 use Rattle.dispenser_frame_rules.specs.Table.{known, command_fields}
 use Rattle.dispenser_frame_rules.specs.Command.{sendable}
 use Rattle.xor_frame.proofs.Lengths.{length_none, length_some}
-use borrow.Author.Rules.{rules}
 use Rattle.dispenser_frame.proofs.command.is_sendable.Goals as goal
 
 pub returns-then-command_length-eq0 : goal.returns-then-command_length-eq0

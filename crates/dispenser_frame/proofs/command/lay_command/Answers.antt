@@ -5,7 +5,6 @@ use Rattle.xor_frame.specs.Layout.{sizes, all_bytes}
 use Rattle.xor_frame.specs.Frame.{frame}
 use Rattle.dispenser_frame_rules.specs.Command.{command_frame}
 use Rattle.xor_frame.proofs.Check.{laid_by}
-use borrow.Author.Rules.{rules}
 use Rattle.dispenser_frame.proofs.command.lay_command.Goals as goal
 
 pub lay-requires : goal.lay-requires

@@ -3,7 +3,6 @@ use mathlib.Core.Path.{sym, ◌∙◌}
 use Rattle.dispenser_frame_rules.proofs.Raw.{counts-raw}
 use Rattle.dispenser_frame_rules.proofs.Codes.{lower-fits}
 use native.Mathlib.Omega.{arith}
-use borrow.Author.Rules.{rules}
 use Rattle.dispenser_frame.proofs.command.read_counts.Goals as goal
 
 pub asked_count-lower-requires : goal.asked_count-lower-requires

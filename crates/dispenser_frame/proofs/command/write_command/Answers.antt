@@ -5,7 +5,6 @@ use Rattle.dispenser_frame_rules.specs.Table.{known, command_fields}
 use Rattle.dispenser_frame_rules.specs.Command.{write_command, command_refusals}
 use Rattle.xor_frame.proofs.Lengths.{length_none, length_some, length-known}
 use native.Mathlib.Omega.{arith}
-use borrow.Author.Rules.{rules}
 use Rattle.dispenser_frame.proofs.command.write_command.Goals as goal
 
 pub returns-then-n-eq0 : goal.returns-then-n-eq0

@@ -1,7 +1,6 @@
 -- `exchange::line::bad` meets its contract. Assumes nothing.
 use borrow.Author.Tests.{lt-ltb, le-ltb}
 use Rattle.exchange_rules.specs.Exchange.{bad_frame}
-use borrow.Author.Rules.{rules}
 use Rattle.exchange.proofs.line.bad.Goals as goal
 
 pub returns-then-was : goal.returns-then-was

@@ -1,5 +1,4 @@
 -- `exchange::line::closed_unknown` meets its contract. Assumes nothing.
-use borrow.Author.Rules.{rules}
 use Rattle.exchange.proofs.line.closed_unknown.Goals as goal
 
 pub returns : goal.returns

@@ -1,7 +1,6 @@
 -- `exchange::line::expired` meets its contract, phase by phase. Assumes nothing.
 use mathlib.Core.Path.{sym, ap, ◌∙◌}
 use Rattle.exchange_rules.specs.Exchange.{expired_in, expired}
-use borrow.Author.Rules.{rules}
 use Rattle.exchange.proofs.line.expired.Goals as goal
 
 pub returns-in-Idle : goal.returns-in-Idle

@@ -1,7 +1,6 @@
 -- `exchange::line::first` meets its contract. Assumes nothing.
 use borrow.Author.Tests.{lt-ltb, le-ltb, eq-eqb, ne_eqb}
 use Rattle.exchange_rules.specs.Exchange.{first_byte}
-use borrow.Author.Rules.{rules}
 use Rattle.exchange.proofs.line.first.Goals as goal
 
 pub returns-then-b-eq6 : goal.returns-then-b-eq6

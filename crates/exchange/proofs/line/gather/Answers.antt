@@ -3,7 +3,6 @@ use Prim.Native.Nat.{◌+◌}
 use borrow.Author.Tests.{lt-ltb, le-ltb}
 use Rattle.exchange_rules.specs.Exchange.{inside_byte}
 use native.Mathlib.Omega.{arith}
-use borrow.Author.Rules.{rules}
 use Rattle.exchange.proofs.line.gather.Goals as goal
 
 pub returns-then-n-span : goal.returns-then-n-span

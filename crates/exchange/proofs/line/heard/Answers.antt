@@ -1,7 +1,6 @@
 -- `exchange::line::heard` meets its contract, phase by phase. Assumes nothing.
 use mathlib.Core.Path.{sym, ap, ◌∙◌}
 use Rattle.exchange_rules.specs.Exchange.{heard_in, heard}
-use borrow.Author.Rules.{rules}
 use Rattle.exchange.proofs.line.heard.Goals as goal
 
 pub returns-in-Idle : goal.returns-in-Idle

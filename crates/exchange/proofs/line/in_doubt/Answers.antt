@@ -1,5 +1,4 @@
 -- `exchange::line::in_doubt` meets its contract. Assumes nothing.
-use borrow.Author.Rules.{rules}
 use Rattle.exchange.proofs.line.in_doubt.Goals as goal
 
 pub returns-then-pays : goal.returns-then-pays

@@ -1,7 +1,6 @@
 -- `exchange::line::one_more` meets its contract. Assumes nothing.
 use Rattle.refusals.proofs.Rules.{tests}
 use Rattle.exchange_rules.specs.Exchange.{one_more}
-use borrow.Author.Rules.{rules}
 use Rattle.exchange.proofs.line.one_more.Goals as goal
 
 pub returns-then-doubts-lt-DOUBTS : goal.returns-then-doubts-lt-DOUBTS

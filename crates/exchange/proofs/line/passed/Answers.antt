@@ -1,7 +1,6 @@
 -- `exchange::line::passed` meets its contract. Assumes nothing.
 use borrow.Author.Tests.{lt-ltb, le-ltb}
 use Rattle.exchange_rules.specs.Exchange.{passed}
-use borrow.Author.Rules.{rules}
 use Rattle.exchange.proofs.line.passed.Goals as goal
 
 pub returns-then-ms-was : goal.returns-then-ms-was

@@ -1,5 +1,4 @@
 -- `exchange::line::settled` meets its contract. Assumes nothing.
-use borrow.Author.Rules.{rules}
 use Rattle.exchange.proofs.line.settled.Goals as goal
 
 pub returns-then-pays : goal.returns-then-pays

@@ -1,7 +1,6 @@
 -- `exchange::line::start` meets its contract. Assumes nothing.
 use borrow.Author.Tests.{eq-eqb, ne_eqb}
 use Rattle.exchange_rules.specs.Exchange.{start_byte}
-use borrow.Author.Rules.{rules}
 use Rattle.exchange.proofs.line.start.Goals as goal
 
 pub returns-then-b-eq1 : goal.returns-then-b-eq1

@@ -1,6 +1,5 @@
 -- `exchange::sums::answered` meets its contract. Assumes nothing.
 use Rattle.exchange_rules.specs.Sums.{sums_answered}
-use borrow.Author.Rules.{rules}
 use Rattle.exchange.proofs.sums.answered.Goals as goal
 
 pub returns : goal.returns

@@ -1,6 +1,5 @@
 -- `exchange::sums::closed_refused` meets its contract. Assumes nothing.
 use Rattle.exchange_rules.specs.Sums.{sums_refused}
-use borrow.Author.Rules.{rules}
 use Rattle.exchange.proofs.sums.closed_refused.Goals as goal
 
 pub returns : goal.returns

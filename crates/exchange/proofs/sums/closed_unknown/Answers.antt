@@ -1,6 +1,5 @@
 -- `exchange::sums::closed_unknown` meets its contract. Assumes nothing.
 use Rattle.exchange_rules.specs.Sums.{sums_unknown}
-use borrow.Author.Rules.{rules}
 use Rattle.exchange.proofs.sums.closed_unknown.Goals as goal
 
 pub returns : goal.returns

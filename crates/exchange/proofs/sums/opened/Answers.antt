@@ -1,6 +1,5 @@
 -- `exchange::sums::opened` meets its contract. Assumes nothing.
 use Rattle.exchange_rules.specs.Sums.{sums_opened}
-use borrow.Author.Rules.{rules}
 use Rattle.exchange.proofs.sums.opened.Goals as goal
 
 pub returns : goal.returns

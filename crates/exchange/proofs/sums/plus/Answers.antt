@@ -3,7 +3,6 @@ use Prim.Native.Nat.{◌+◌, ◌-◌, ◌≤◌, ◌<◌}
 use borrow.Author.Tests.{le-leb, lt-leb}
 use Rattle.exchange_rules.specs.Sums.{plus}
 use native.Mathlib.Omega.{arith}
-use borrow.Author.Rules.{rules}
 use Rattle.exchange.proofs.sums.plus.Goals as goal
 
 pub returns-then-n-a : goal.returns-then-n-a

@@ -1,6 +1,5 @@
 -- `exchange::sums::rejected` meets its contract. Assumes nothing.
 use Rattle.exchange_rules.specs.Sums.{sums_rejected}
-use borrow.Author.Rules.{rules}
 use Rattle.exchange.proofs.sums.rejected.Goals as goal
 
 pub returns : goal.returns

@@ -1,7 +1,6 @@
 -- `text::reading::beside` is safe and ends: one byte of the sentence fewer is left at each turn. Assumes nothing.
 use Prim.Native.Nat.{◌-◌}
 use lib.ListN.{length}
-use borrow.Author.Rules.{rules}
 use Rattle.text.proofs.reading.beside.Given as goal
 
 abbrev pub invariant-loop-i : goal.invariant-loop-i

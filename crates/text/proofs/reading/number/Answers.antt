@@ -1,7 +1,5 @@
 -- `text::reading::number` is safe and ends: one digit fewer is left at each turn. Assumes nothing.
 use Prim.Native.Nat.{◌-◌}
-use lib.ListN.{length}
-use borrow.Author.Rules.{rules}
 use Rattle.text.proofs.reading.number.Goals as goal
 
 pub loop-i-init : goal.loop-i-init

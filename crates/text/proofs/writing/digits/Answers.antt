@@ -1,7 +1,5 @@
 -- `text::writing::digits` goes two bytes further for each digit at most. Assumes nothing.
-use mathlib.Core.Path.{◌≡◌}
-use Prim.Native.Nat.{◌+◌, ◌*◌, ◌-◌, ◌≤◌}
-use lib.ListN.{length}
+use Prim.Native.Nat.{◌-◌}
 use borrow.Author.Rules.{rules}
 use Rattle.text.proofs.writing.digits.Goals as goal
 

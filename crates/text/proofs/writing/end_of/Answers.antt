@@ -1,6 +1,5 @@
 -- `text::writing::end_of` stays in the table, and within 100 bytes. Assumes nothing.
-use Prim.Native.Nat.{◌+◌, ◌-◌, ◌≤◌}
-use lib.ListN.{length}
+use Prim.Native.Nat.{◌-◌}
 use borrow.Author.Rules.{rules}
 use Rattle.text.proofs.writing.end_of.Goals as goal
 

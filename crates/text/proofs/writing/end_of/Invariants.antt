@@ -1,7 +1,6 @@
 -- `text::writing::end_of` stays in the table, and within 100 bytes. Assumes nothing.
 use Prim.Native.Nat.{◌+◌, ◌-◌, ◌≤◌}
 use lib.ListN.{length}
-use borrow.Author.Rules.{rules}
 use Rattle.text.proofs.writing.end_of.Given as goal
 
 abbrev pub invariant-loop-i : goal.invariant-loop-i

@@ -1,7 +1,5 @@
 -- `text::writing::filled` goes one byte further for each of the row, and 40 for each of four values, at most. Assumes nothing.
-use mathlib.Core.Path.{◌≡◌}
-use Prim.Native.Nat.{◌+◌, ◌*◌, ◌-◌, ◌≤◌}
-use lib.ListN.{length}
+use Prim.Native.Nat.{◌-◌}
 use borrow.Author.Rules.{rules}
 use Rattle.text.proofs.writing.filled.Goals as goal
 

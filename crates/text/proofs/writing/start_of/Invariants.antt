@@ -1,7 +1,6 @@
 -- `text::writing::start_of` stays in the table. Assumes nothing.
 use Prim.Native.Nat.{◌-◌, ◌≤◌}
 use lib.ListN.{length}
-use borrow.Author.Rules.{rules}
 use Rattle.text.proofs.writing.start_of.Given as goal
 
 abbrev pub invariant-loop-i : goal.invariant-loop-i

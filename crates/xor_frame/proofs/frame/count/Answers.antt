@@ -1,7 +1,6 @@
 -- `xor_frame::frame::count` meets its contract: what `read_digits` finds in the two bytes. Assumes nothing.
 use mathlib.Core.Path.{sym, ap, ◌∙◌}
 use Rattle.xor_frame.proofs.Raw.{counted, count-found}
-use borrow.Author.Rules.{rules}
 use Rattle.xor_frame.proofs.frame.count.Goals as goal
 
 pub returns-in-Of : goal.returns-in-Of

@@ -1,5 +1,4 @@
 -- `xor_frame::frame::judge` meets its contract: the opening, and then the rest. Assumes nothing.
-use borrow.Author.Rules.{rules}
 use Rattle.xor_frame.proofs.frame.judge.Goals as goal
 
 pub returns-then-both : goal.returns-then-both

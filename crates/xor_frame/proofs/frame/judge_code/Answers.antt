@@ -3,7 +3,6 @@ use mathlib.Core.Path.{sym}
 use lib.Seq.{length-take-le}
 use Rattle.refusals.proofs.Rules.{tests}
 use native.Mathlib.Omega.{arith}
-use borrow.Author.Rules.{rules}
 use Rattle.xor_frame.proofs.frame.judge_code.Goals as goal
 
 pub returns-then-n-eq0 : goal.returns-then-n-eq0

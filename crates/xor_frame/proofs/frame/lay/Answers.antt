@@ -2,15 +2,14 @@
 -- the bytes and their check laid from the start; and those left, after the sum so far, give the check of all. Assumes nothing.
 use mathlib.Core.Path.{◌≡◌, refl, ap, ◌∙◌}
 use mathlib.Core.List.{List, [], ◌∷◌, ◌++◌}
-use Prim.Native.Nat.{ℕ, suc, ◌≤◌, ◌<◌, ◌-◌}
+use Prim.Native.Nat.{ℕ, suc, ◌<◌, ◌-◌}
 use native.Mathlib.Numerals.{add-one}
 use native.Mathlib.Omega.{arith}
-use lib.ListN.{length, get_or, take, drop, length-append, length-set}
+use lib.ListN.{length, get_or, length-append, length-set}
 use lib.Seq.{drop-cons, drop-length}
 use borrow.Author.Rules.{rules}
-use Rattle.refusals.specs.Put.{over}
 use Rattle.refusals.proofs.Writing.{over-one, over_last}
-use Rattle.xor_frame.specs.Frame.{check_from, check, closed}
+use Rattle.xor_frame.specs.Frame.{check, closed}
 use Rattle.xor_frame.proofs.Check.{check-next, check-end}
 use Rattle.xor_frame.proofs.frame.lay.Invariants.{left}
 use Rattle.xor_frame.proofs.frame.lay.Goals as goal

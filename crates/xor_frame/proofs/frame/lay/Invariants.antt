@@ -1,17 +1,11 @@
 -- `xor_frame::frame::lay` meets its contract: the room's first i bytes, and the bytes left and the check laid from there on, are
 -- the bytes and their check laid from the start; and those left, after the sum so far, give the check of all. Assumes nothing.
-use mathlib.Core.Path.{◌≡◌, refl, ap, ◌∙◌}
+use mathlib.Core.Path.{◌≡◌}
 use mathlib.Core.List.{List, [], ◌∷◌, ◌++◌}
-use Prim.Native.Nat.{ℕ, suc, ◌≤◌, ◌<◌, ◌-◌}
-use native.Mathlib.Numerals.{add-one}
-use native.Mathlib.Omega.{arith}
-use lib.ListN.{length, get_or, take, drop, length-append, length-set}
-use lib.Seq.{drop-cons, drop-length}
-use borrow.Author.Rules.{rules}
+use Prim.Native.Nat.{ℕ, ◌≤◌, ◌-◌}
+use lib.ListN.{length, take, drop}
 use Rattle.refusals.specs.Put.{over}
-use Rattle.refusals.proofs.Writing.{over-one, over_last}
 use Rattle.xor_frame.specs.Frame.{check_from, check, closed}
-use Rattle.xor_frame.proofs.Check.{check-next, check-end}
 use Rattle.xor_frame.proofs.frame.lay.Given as goal
 
 -- what is left to lay after i bytes

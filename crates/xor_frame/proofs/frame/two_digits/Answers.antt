@@ -1,5 +1,4 @@
 -- `xor_frame::frame::two_digits` meets its contract. Assumes nothing.
-use borrow.Author.Rules.{rules}
 use Rattle.xor_frame.proofs.frame.two_digits.Goals as goal
 
 pub returns : goal.returns

@@ -1,5 +1,4 @@
 -- `dispenser_rules::account::Cassettes::fresh` meets its contract. Assumes nothing.
-use borrow.Author.Rules.{rules}
 use Rattle.dispenser_rules.proofs.account.Cassettes.fresh.Goals as goal
 
 pub returns : goal.returns

@@ -1,6 +1,5 @@
 -- `dispenser_rules::session::Session::fresh` meets its contract. Assumes nothing.
 use Rattle.dispenser_rules.specs.Session.{fresh_session}
-use borrow.Author.Rules.{rules}
 use Rattle.dispenser_rules.proofs.session.Session.fresh.Goals as goal
 
 pub returns : goal.returns
