@@ -2,7 +2,6 @@
 use Rattle.std.specs.Prelude.{ℕ, List}
 use Prim.Native.String.{String, [], ◌∷◌}
 use Prim.Native.Char.{code}
-use mathlib.Core.List as List
 
 -- a text in ASCII
 abbrev pub bytes_of : String → List ℕ

@@ -2,30 +2,27 @@
 use Prim.Native.Nat.{ℕ}
 use mathlib.Core.Path.{◌≡◌, refl, sym}
 use mathlib.Core.Bool.{true, true≢false}
-use mathlib.Core.List.{List, [], ◌∷◌}
-use denote.Enum.Declared.{tag_of}
-use types.Run.{OneOf, miss}
+use mathlib.Core.List.{List}
 use Rattle.ccnet_class.specs.declared.Class.{Class}
 use Rattle.ccnet_class.specs.declared.Class.TheVariants.{Ack, Nak, Illegal, State, Busy, Rejecting, Failing, Escrow, Stacked, Returned, Unknown, Table}
-use Rattle.ccnet_class.specs.contracts.Class.{the_type as class-type}
 use Rattle.validator_rules.specs.Session.{class_step, answered_step}
 use Rattle.validator_rules.specs.declared.line.Line.{Line}
 use Rattle.validator_rules.proofs.Telling.{replied}
 
 -- every class but ACK, NAK and illegal gets a reply
-pub replies : (c : Class) → OneOf (3 ∷ 4 ∷ 5 ∷ 6 ∷ 7 ∷ 8 ∷ 9 ∷ 10 ∷ 11 ∷ []) (tag_of class-type c) → replied c ≡ true
-replies Ack h = absurd (miss (3 ∷ 4 ∷ 5 ∷ 6 ∷ 7 ∷ 8 ∷ 9 ∷ 10 ∷ 11 ∷ []) 0 tt h)
-replies Nak h = absurd (miss (3 ∷ 4 ∷ 5 ∷ 6 ∷ 7 ∷ 8 ∷ 9 ∷ 10 ∷ 11 ∷ []) 1 tt h)
-replies Illegal h = absurd (miss (3 ∷ 4 ∷ 5 ∷ 6 ∷ 7 ∷ 8 ∷ 9 ∷ 10 ∷ 11 ∷ []) 2 tt h)
-replies (State b) h = refl
-replies (Busy b) h = refl
-replies (Rejecting b) h = refl
-replies (Failing b) h = refl
-replies (Escrow y) h = refl
-replies (Stacked y) h = refl
-replies (Returned y) h = refl
-replies Unknown h = refl
-replies Table h = refl
+pub replies : (c : Class) → (c ≡ Ack → ⊥) → (c ≡ Nak → ⊥) → (c ≡ Illegal → ⊥) → replied c ≡ true
+replies Ack a n i = absurd (a refl)
+replies Nak a n i = absurd (n refl)
+replies Illegal a n i = absurd (i refl)
+replies (State b) a n i = refl
+replies (Busy b) a n i = refl
+replies (Rejecting b) a n i = refl
+replies (Failing b) a n i = refl
+replies (Escrow y) a n i = refl
+replies (Stacked y) a n i = refl
+replies (Returned y) a n i = refl
+replies Unknown a n i = refl
+replies Table a n i = refl
 
 -- and that is an ACK
 pub other-class : (c : Class) → replied c ≡ true → (l : Line) (r : List ℕ) → class_step c l r ≡ answered_step l c r

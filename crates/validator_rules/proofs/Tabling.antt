@@ -1,21 +1,19 @@
 -- The bill table after a call is the one that the history gives: only a byte that ends the answer to GET BILL TABLE brings one, and it is that answer's body. Assumes nothing.
 use Prim.Native.Nat.{ℕ, ◌+◌, ◌-◌, ◌≤◌, ◌<◌}
 use mathlib.Core.Path.{◌≡◌, refl, sym, ap, ap₂, ◌∙◌}
-use mathlib.Core.Bool.{Bool, true, false, cond, true≢false}
+use mathlib.Core.Bool.{true, false, true≢false}
 use mathlib.Core.List.{List, [], ◌∷◌, ◌++◌}
 use native.Mathlib.Omega.{arith}
-use lib.Dec.{eqb}
-use lib.ListN.{length, take, drop, set, replicate}
+use lib.ListN.{length, take, set}
 use Rattle.refusals.specs.Rules.{same, under, at_most, within}
 use Rattle.refusals.proofs.Rules.{holds-true, fails-false, by_cases, cond-true, cond-false, pick}
-use Rattle.ccnet_class.specs.Class.{class_of}
 use Rattle.ccnet_class.specs.declared.Class.{Class}
 use Rattle.ccnet_class.specs.declared.Class.TheVariants.{Ack, Nak, Illegal, State, Busy, Rejecting, Failing, Escrow, Stacked, Returned, Unknown, Table}
 use Rattle.ccnet_class.proofs.Classes.{classes}
 use Rattle.bill_table.specs.Table.{filled, read_table}
 use Rattle.ledger.specs.Events.{asks, hears, waits, closes, done, since}
 use Rattle.ledger.specs.Calls.{Returned as Gave, gave, did, told}
-use Rattle.validator_rules.specs.Line.{closed, inside, waits as still, start_byte, address_byte, length_byte, further_byte, answer_byte, heard_in, heard}
+use Rattle.validator_rules.specs.Line.{start_byte, address_byte, length_byte, further_byte, answer_byte, heard_in, heard}
 use Rattle.validator_rules.specs.Session.{HeardAfter, damaged_step, answered_step, class_step, says_table, inner, table_said, table_found, found, judged_step, judge_step, byte_acted}
 use Rattle.validator_rules.specs.History.{last_code, from_start, between, answer_to, table_by, Says, Truly}
 use Rattle.validator_rules.specs.Calls.{Request, answered, Known, Past, returned, ending}

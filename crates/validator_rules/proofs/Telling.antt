@@ -1,11 +1,9 @@
 -- What a body says in answer to a command: as ever, but that in answer to GET BILL TABLE all but the three that close without a reply are the table, or too long. Assumes nothing.
-use Prim.Native.Nat.{ℕ, ◌≤◌, ◌<◌}
+use Prim.Native.Nat.{ℕ}
 use mathlib.Core.Path.{◌≡◌, refl, sym, ap, ◌∙◌}
-use mathlib.Core.Bool.{Bool, true, false, cond, true≢false}
-use mathlib.Core.List.{List, [], ◌∷◌}
+use mathlib.Core.Bool.{Bool, true, false, true≢false}
+use mathlib.Core.List.{List}
 use native.Mathlib.Omega.{arith}
-use lib.Dec.{eqb}
-use lib.ListN.{length}
 use Rattle.refusals.specs.Rules.{same}
 use Rattle.refusals.proofs.Rules.{holds-true, fails-false, by_cases, cond-true, cond-false, pick}
 use Rattle.ccnet_class.specs.Class.{class_of, class_bytes, is_named}

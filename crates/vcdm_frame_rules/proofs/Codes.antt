@@ -1,13 +1,13 @@
 -- By code: the five lines of the table, and every other code. Assumes nothing.
 use Prim.Native.Nat.{ℕ, ◌+◌, ◌≤◌, ◌<◌}
 use mathlib.Core.Path.{◌≡◌, refl, sym, ap, subst}
-use mathlib.Core.Bool.{Bool, true, false, ◌||◌}
+use mathlib.Core.Bool.{Bool, true, false}
 use mathlib.Core.List.{[]}
 use mathlib.Core.Logic.{◌⊎◌, ⊎_elim}
 use native.Mathlib.Omega.{arith}
 use lib.Dec.{eqb, lit≤, lit<}
-use borrow.Author.Tests.{eqb-true, ne_eqb}
-use Rattle.refusals.proofs.Rules.{tested, holds-true}
+use borrow.Author.Tests.{eqb-true}
+use Rattle.refusals.proofs.Rules.{tested}
 use Rattle.xor_frame.specs.Layout.{sizes}
 use Rattle.xor_frame.specs.Frame.{length_with}
 use Rattle.xor_frame.proofs.Lengths.{length-known}

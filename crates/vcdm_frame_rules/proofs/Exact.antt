@@ -1,24 +1,22 @@
 -- Each number is given exactly when 01 says and in its order, by the one law for every list of rules; what can be sent and asked; and the table's
 -- columns. Assumes nothing.
 use Prim.Native.Nat.{ℕ, ◌+◌, ◌≤◌}
-use mathlib.Core.Path.{◌≡◌, refl, sym, ap, ap₂, ◌∙◌, subst}
+use mathlib.Core.Path.{◌≡◌, refl, ◌∙◌, subst}
 use mathlib.Core.Bool.{Bool, true, false}
-use mathlib.Core.List.{List, [], ◌∷◌}
 use native.Mathlib.Omega.{arith}
-use lib.Dec.{eqb}
 use borrow.Author.Tests.{ne_eqb}
 use Rattle.refusals.proofs.Rules.{exactly, certain}
 use Rattle.refusals.proofs.Writing.{writes}
 use Rattle.xor_frame.specs.Layout.{sizes}
 use Rattle.xor_frame.specs.Frame.{length_with, code_of, faults}
-use Rattle.vcdm_frame_rules.specs.Table.{known, table, code_in, line_in, line}
+use Rattle.vcdm_frame_rules.specs.Table.{known, table, code_in, line_in}
 use Rattle.vcdm_frame_rules.specs.Command.{counts, counts_fit, command_fits, askable, sendable, command_frame, command_refusals, write_command, command_in, command_faults, read_command}
 use Rattle.vcdm_frame_rules.specs.Answer.{answer_frame, answer_refusals, write_answer, answer_in, answer_faults, read_answer}
 use Rattle.vcdm_frame_rules.specs.Promises.{ExactlyWhen, InOrder, SentAsWritten, Columns, Taken}
 use Rattle.vcdm_frame_rules.specs.declared.command.Counts.{Counts}
 use Rattle.vcdm_frame_rules.specs.declared.command.CommandRead.TheVariants.{Refused}
 use Rattle.vcdm_frame_rules.specs.declared.answer.AnswerRead.TheVariants.{Read as Found, Refused as NotRead}
-use Rattle.vcdm_frame_rules.proofs.Codes.{asks-notes, dispense-known, command-longest}
+use Rattle.vcdm_frame_rules.proofs.Codes.{asks-notes, dispense-known}
 
 pub exactly-when : ExactlyWhen
 unfolding write_command read_command command_in write_answer read_answer

@@ -6,7 +6,7 @@ use mathlib.Core.Bool.{Bool, true, false, cond, not, ◌&&◌, and-false, and-tr
 use mathlib.Core.List.{List, [], ◌∷◌, ◌++◌}
 use native.Mathlib.Nat.{mod-eq_of_lt}
 use native.Mathlib.Omega.{arith}
-use lib.Dec.{eqb, leb, lit<}
+use lib.Dec.{eqb, leb}
 use lib.ListN.{length, get_or}
 use borrow.Author.Tests.{ne_eqb, le-leb}
 use Rattle.refusals.specs.Rules.{Rule, within, same, judged}
@@ -17,13 +17,12 @@ use Rattle.xor_frame.specs.Frame.{eot, soh, stx, closed, frame, code_of, faults}
 use Rattle.xor_frame.specs.Parts.{field_faults, outer_faults}
 use Rattle.xor_frame.specs.declared.frame.Verdict.TheVariants.{Good, Bad}
 use Rattle.xor_frame.proofs.Reading.{after, reading}
-use Rattle.xor_frame.proofs.Raw.{Sound, raw_values, raw-fits, raw-values, read-raw}
+use Rattle.xor_frame.proofs.Raw.{raw_values, raw-fits, raw-values, read-raw}
 use Rattle.vcdm_frame_rules.specs.Table.{unit_id, purge_code, dispense_code, last_code, passed, measured, kind, serial, last_serial, cassette_fields, spare_fields, table, line_in, known, line, asked_fields, command_fields, answer_fields, command_length, answer_length}
-use Rattle.vcdm_frame_rules.specs.Command.{sum_fits, counts_fit, serial_fits, command_fits, no_counts, command_frame, counts_at, serial_at, command_in, sum_faults, command_faults, read_command}
+use Rattle.vcdm_frame_rules.specs.Command.{sum_fits, counts_fit, serial_fits, command_fits, no_counts, command_frame, counts_at, command_in, sum_faults, command_faults, read_command}
 use Rattle.vcdm_frame_rules.specs.Answer.{answer_code, cassette_values, spare_values, answer_values, answer_fits, answer_frame, answer_in, read_answer}
-use Rattle.vcdm_frame_rules.specs.Parts.{asked_read, fields_read_lem, lowered_counts, paid_from, cassettes_from, spare_from, place_from, places_from, paid_fits, cassettes_fit, names_fit, place_fits, places_fit, fits_by, answer_from, cassette_bytes, raised_command, status_frame, counted_frame, last_frame, raised_answer}
+use Rattle.vcdm_frame_rules.specs.Parts.{asked_read, fields_read, lowered_counts, paid_from, cassettes_from, spare_from, place_from, places_from, paid_fits, cassettes_fit, names_fit, place_fits, places_fit, fits_by, answer_from, cassette_bytes, raised_command, status_frame, counted_frame, last_frame, raised_answer}
 use Rattle.vcdm_frame_rules.specs.declared.command.Counts.{Counts}
-use Rattle.vcdm_frame_rules.specs.declared.command.CommandRead.{CommandRead}
 use Rattle.vcdm_frame_rules.specs.declared.command.CommandRead.TheVariants.{Read as Command, Refused as NoCommand}
 use Rattle.vcdm_frame_rules.specs.declared.answer.Paid.{Paid}
 use Rattle.vcdm_frame_rules.specs.declared.answer.Cassettes.{Cassettes}
@@ -93,8 +92,8 @@ taken s =
 
 -- it is read where its fields are in their ranges, and else refused
 pub fields_read_lem : (code : ℕ) (s : List ℕ) → (known code).holds
-    → fields_read_lem (answer_fields code) (line code).makes s ≡ cond (answer_fits (answer_from code s)).test (Read (answer_from code s)) (Refused Outside)
-unfolding fields_read_lem answer_fits
+    → fields_read (answer_fields code) (line code).makes s ≡ cond (answer_fits (answer_from code s)).test (Read (answer_from code s)) (Refused Outside)
+unfolding fields_read answer_fits
 fields_read_lem code s k =
     let t = taken s code k in
     read-raw (answer_fields code) (λ v. Read ((line code).makes v)) (Refused Outside) s (answers-sound code)
@@ -179,8 +178,8 @@ command-reading s h =
     ∙ ap (after NoCommand (judged (outer_faults eot unit_id (command_length code) s) Bad Good)) (sym (judged-both (field_faults (command_fields code) s) (sum_faults code s) NoCommand found))
 
 pub answer-reading : (s : List ℕ) → 6 ≤ length s
-    → read_answer s ≡ after Refused (judged (outer_faults soh unit_id (answer_length (code_of s)) s) Bad Good) (fields_read_lem (answer_fields (code_of s)) (line (code_of s)).makes s)
-unfolding read_answer fields_read_lem
+    → read_answer s ≡ after Refused (judged (outer_faults soh unit_id (answer_length (code_of s)) s) Bad Good) (fields_read (answer_fields (code_of s)) (line (code_of s)).makes s)
+unfolding read_answer fields_read
 answer-reading s h = reading Refused soh unit_id known answer_fields s (Read (answer_in s)) h
 
 -- ---- what is laid

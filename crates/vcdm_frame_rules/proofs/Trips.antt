@@ -16,7 +16,7 @@ use Rattle.xor_frame.specs.Layout.{Field, sizes, all_in_range, all_bytes, all_va
 use Rattle.xor_frame.specs.Frame.{eot, soh, frame, closed, code_of, faults}
 use Rattle.xor_frame.proofs.Lengths.{length-known}
 use Rattle.xor_frame.proofs.Frames.{whole_length, whole-passes, whole-values, passed-known, passed_length, passed-ranges, passed-frame}
-use Rattle.vcdm_frame_rules.specs.Table.{unit_id, line, known, asked_fields, command_fields, answer_fields, table, code_in, line_in, reset_fields, status_fields, purged_fields, dispensed_fields, last_fields}
+use Rattle.vcdm_frame_rules.specs.Table.{unit_id, line, known, asked_fields, command_fields, answer_fields, table, line_in, reset_fields, status_fields, purged_fields, dispensed_fields, last_fields}
 use Rattle.vcdm_frame_rules.specs.Command.{sum_fits, counts_fit, serial_fits, command_fits, sendable, asked_values, command_frame, command_refusals, write_command, counts_at, serial_at, command_in, sum_faults, command_faults, read_command}
 use Rattle.vcdm_frame_rules.specs.Answer.{answer_code, answer_values, answer_fits, answer_frame, answer_refusals, write_answer, answer_in, answer_faults, read_answer}
 use Rattle.vcdm_frame_rules.specs.Promises.{CommandTrips, AnswerTrips}

@@ -23,8 +23,8 @@ use Rattle.vcdm_frame_rules.specs.declared.answer.AnswerRead.TheVariants.{Read, 
 unfoldable pub asked_read : ℕ → List ℕ → CommandRead
 asked_read code s = judged (field_faults (command_fields code) s ++ sum_faults code s) Refused (command_in code s)
 
-unfoldable pub fields_read_lem : List Field → (List ℕ → Answer) → List ℕ → AnswerRead
-fields_read_lem fields make s = judged (field_faults fields s) NotRead (Read (make (all_values fields 4 s)))
+unfoldable pub fields_read : List Field → (List ℕ → Answer) → List ℕ → AnswerRead
+fields_read fields make s = judged (field_faults fields s) NotRead (Read (make (all_values fields 4 s)))
 
 -- the counts of a command frame, as the reader takes them: a byte under 20h counts more than any field may hold
 unfoldable pub lowered_counts : List ℕ → Counts

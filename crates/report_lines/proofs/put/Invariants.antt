@@ -1,12 +1,8 @@
 -- `report_lines::put` meets its contract. The invariant: i bytes are added. Assumes nothing.
-use mathlib.Core.Path.{◌≡◌, refl, sym}
-use mathlib.Core.List.{◌++◌, append-nil}
+use mathlib.Core.Path.{◌≡◌}
+use mathlib.Core.List.{◌++◌}
 use Prim.Native.Nat.{◌+◌, ◌-◌, ◌≤◌}
-use native.Mathlib.Nat.{add-zero}
-use lib.ListN.{length, take, length-set}
-use Rattle.report_lines.proofs.Adding.{add-byte, add-all}
-use borrow.Author.Rules.{rules}
-use native.Mathlib.Omega.{arith}
+use lib.ListN.{length, take}
 use Rattle.report_lines.proofs.put.Given as goal
 
 abbrev pub invariant-loop-i : goal.invariant-loop-i

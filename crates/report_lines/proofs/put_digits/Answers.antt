@@ -2,7 +2,6 @@
 use mathlib.Core.Path.{refl}
 use lib.ListN.{length-take}
 use Rattle.report_lines.proofs.Adding.{twenty, digits-put, digits-fit, digits-added}
-use borrow.Author.Rules.{rules}
 use native.Mathlib.Omega.{arith}
 use Rattle.report_lines.proofs.put_digits.Goals as goal
 
@@ -10,25 +9,25 @@ pub slice_bounds-put-end : goal.slice_bounds-put-end
 slice_bounds-put-end c =
     let args = c.args in
     let w = c.write_decimal in
-    let d = digits-put args.n _ w.new.1.0 c.ranges.n.fits refl w.result _ w.ensures c.in-Bytes.is in
+    let d = digits-put args.n _ w.new.room c.ranges.n.fits refl w.result _ w.ensures c.in-Bytes.is in
     omega (arith, d.many, twenty args.n c.ranges.n.fits)
 
 pub put-requires : goal.put-requires
 put-requires c =
     let args = c.args in
     let w = c.write_decimal in
-    let d = digits-put args.n _ w.new.1.0 c.ranges.n.fits refl w.result _ w.ensures c.k-1.given.1 in
+    let d = digits-put args.n _ w.new.room c.ranges.n.fits refl w.result _ w.ensures c.in-Bytes.is in
     simp length-take (omega (arith, d.many, twenty args.n c.ranges.n.fits))
 
 pub returns-in-Bytes : goal.returns-in-Bytes
 returns-in-Bytes c =
     let args = c.args in
     let w = c.write_decimal in
-    let d = digits-put args.n _ w.new.1.0 c.ranges.n.fits refl w.result _ w.ensures c.k-1.given.1 in
+    let d = digits-put args.n _ w.new.room c.ranges.n.fits refl w.result _ w.ensures c.in-Bytes.is in
     digits-added d c.put.ensures
 
 pub returns-in-Refused : goal.returns-in-Refused
 returns-in-Refused c =
     let args = c.args in
     let w = c.write_decimal in
-    absurd (digits-fit args.n _ w.new.1.0 c.ranges.n.fits refl w.result _ w.ensures c.in-Refused.is)
+    absurd (digits-fit args.n _ w.new.room c.ranges.n.fits refl w.result _ w.ensures c.in-Refused.is)

@@ -2,7 +2,6 @@
 use Rattle.report_lines.proofs.Adding.{adds_then}
 use Rattle.report_lines.proofs.Lines.{line-added}
 use native.Mathlib.Omega.{arith}
-use borrow.Author.Rules.{rules}
 use Rattle.report_lines.proofs.put_error.Goals as goal
 
 pub returns : goal.returns

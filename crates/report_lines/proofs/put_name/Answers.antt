@@ -1,10 +1,9 @@
 -- `report_lines::put_name` meets its contract. Assumes nothing.
 use native.Mathlib.Omega.{arith}
-use borrow.Author.Rules.{rules}
 use Rattle.report_lines.proofs.put_name.Goals as goal
 
 pub returns-in-NoneYet : goal.returns-in-NoneYet
-returns-in-NoneYet c = let e = c.put.ensures in rw c.enum_told-1.given.1 (record { adds = e; upper_bound = omega (arith, e.ends) })
+returns-in-NoneYet c = let e = c.put.ensures in rw c.in-NoneYet.is (record { adds = e; upper_bound = omega (arith, e.ends) })
 
 pub returns-in-Of : goal.returns-in-Of
 returns-in-Of c = rw c.in-Of.is c.put_class.ensures

@@ -1,6 +1,5 @@
 -- `report_lines::put_number` meets its contract. Assumes nothing.
 use Rattle.report_lines.proofs.Adding.{ten}
-use borrow.Author.Rules.{rules}
 use native.Mathlib.Omega.{arith}
 use Rattle.report_lines.proofs.put_number.Goals as goal
 

@@ -1,6 +1,5 @@
 -- `report_lines::put_sums` meets its contract. Assumes nothing.
 use Rattle.report_lines.proofs.Adding.{adds_then}
-use borrow.Author.Rules.{rules}
 use native.Mathlib.Omega.{arith}
 use Rattle.report_lines.proofs.put_sums.Goals as goal
 

@@ -1,7 +1,6 @@
 -- `report_lines::put_unpaid` meets its contract. Assumes nothing.
 use Rattle.report_lines.specs.Lines.{unpaid_part}
 use Rattle.report_lines.proofs.Adding.{adds_then}
-use borrow.Author.Rules.{rules}
 use native.Mathlib.Omega.{arith}
 use Rattle.report_lines.proofs.put_unpaid.Goals as goal
 

@@ -1,7 +1,6 @@
 -- `validator_line::address_byte` meets its contract. Assumes nothing.
 use borrow.Author.Tests.{eq-eqb, ne_eqb}
 use Rattle.validator_rules.specs.Line.{address_byte}
-use borrow.Author.Rules.{rules}
 use Rattle.validator_line.proofs.address_byte.Goals as goal
 
 pub returns-then-b-eq3 : goal.returns-then-b-eq3

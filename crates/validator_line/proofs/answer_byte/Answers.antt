@@ -1,7 +1,6 @@
 -- `validator_line::answer_byte` meets its contract. Assumes nothing.
 use borrow.Author.Tests.{eq-eqb, ne_eqb}
 use Rattle.validator_rules.specs.Line.{answer_byte}
-use borrow.Author.Rules.{rules}
 use Rattle.validator_line.proofs.answer_byte.Goals as goal
 
 pub returns-then-line-eq1 : goal.returns-then-line-eq1

@@ -1,7 +1,6 @@
 -- `validator_line::expired` meets its contract, phase by phase. Assumes nothing.
 use mathlib.Core.Path.{sym, ap}
 use Rattle.validator_rules.specs.Line.{expired_in, expired}
-use borrow.Author.Rules.{rules}
 use Rattle.validator_line.proofs.expired.Goals as goal
 
 pub returns-in-Idle : goal.returns-in-Idle

@@ -3,7 +3,6 @@ use Prim.Native.Nat.{◌+◌}
 use borrow.Author.Tests.{lt-ltb, le-ltb}
 use Rattle.validator_rules.specs.Line.{further_byte}
 use native.Mathlib.Omega.{arith}
-use borrow.Author.Rules.{rules}
 use Rattle.validator_line.proofs.further_byte.Goals as goal
 
 pub returns-then-n-line : goal.returns-then-n-line

@@ -1,7 +1,6 @@
 -- `validator_line::heard` meets its contract, phase by phase. Assumes nothing.
 use mathlib.Core.Path.{sym, ap, ◌∙◌}
 use Rattle.validator_rules.specs.Line.{heard_in, heard}
-use borrow.Author.Rules.{rules}
 use Rattle.validator_line.proofs.heard.Goals as goal
 
 pub returns-in-Idle : goal.returns-in-Idle

@@ -1,7 +1,6 @@
 -- `validator_line::length_byte` meets its contract. Assumes nothing.
 use borrow.Author.Tests.{lt-ltb, le-ltb}
 use Rattle.validator_rules.specs.Line.{length_byte}
-use borrow.Author.Rules.{rules}
 use Rattle.validator_line.proofs.length_byte.Goals as goal
 
 pub returns-then-b-lt6 : goal.returns-then-b-lt6

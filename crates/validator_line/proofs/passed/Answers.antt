@@ -1,7 +1,6 @@
 -- `validator_line::passed` meets its contract. Assumes nothing.
 use borrow.Author.Tests.{lt-ltb, le-ltb}
 use Rattle.validator_rules.specs.Line.{passed}
-use borrow.Author.Rules.{rules}
 use Rattle.validator_line.proofs.passed.Goals as goal
 
 pub returns-then-ms-line : goal.returns-then-ms-line

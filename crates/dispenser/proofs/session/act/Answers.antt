@@ -1,5 +1,4 @@
 -- `dispenser::session::act` meets its contract, deed by deed. Assumes nothing.
-use borrow.Author.Rules.{rules}
 use Rattle.dispenser.proofs.session.act.Goals as goal
 
 pub returns-in-Nothing : goal.returns-in-Nothing
@@ -15,7 +14,7 @@ pub returns-in-LastNak : goal.returns-in-LastNak
 returns-in-LastNak c = simp (c.in-LastNak.is, c.done-in-LastNak.ensures, c.in_doubt-next.ensures, c.pays.ensures, c.send-in-LastNak.ensures)
 
 pub returns-in-CloseRefused : goal.returns-in-CloseRefused
-returns-in-CloseRefused c = simp (c.in-CloseRefused.is, c.done-in-CloseRefused.ensures, c.settled-next.ensures.1, c.pays-in-CloseRefused.ensures)
+returns-in-CloseRefused c = simp (c.in-CloseRefused.is, c.done-in-CloseRefused.ensures, c.settled-next.ensures.value_2, c.pays-in-CloseRefused.ensures)
 
 pub returns-in-CloseUnknown : goal.returns-in-CloseUnknown
 returns-in-CloseUnknown c = simp (c.in-CloseUnknown.is, c.done-in-CloseUnknown.ensures, c.in_doubt-next-in-CloseUnknown.ensures, c.pays-in-CloseUnknown.ensures)

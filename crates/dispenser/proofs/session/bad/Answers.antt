@@ -1,6 +1,5 @@
 -- `dispenser::session::bad` meets its contract. Assumes nothing.
 use Rattle.dispenser_rules.specs.Session.{bad_step}
-use borrow.Author.Rules.{rules}
 use Rattle.dispenser.proofs.session.bad.Goals as goal
 
 pub returns : goal.returns

@@ -1,6 +1,5 @@
 -- `dispenser::session::byte` meets its contract. Assumes nothing.
 use Rattle.dispenser_rules.specs.Session.{session_byte}
-use borrow.Author.Rules.{rules}
 use Rattle.dispenser.proofs.session.byte.Goals as goal
 
 pub returns : goal.returns

@@ -1,6 +1,5 @@
 -- `dispenser::session::clear` meets its contract. Assumes nothing.
 use Rattle.dispenser_rules.specs.Session.{session_clear}
-use borrow.Author.Rules.{rules}
 use Rattle.dispenser.proofs.session.clear.Goals as goal
 
 pub returns : goal.returns

@@ -1,6 +1,5 @@
 -- `dispenser::session::hand_over` meets its contract. Assumes nothing.
 use Rattle.dispenser_rules.specs.Session.{hand_over}
-use borrow.Author.Rules.{rules}
 use Rattle.dispenser.proofs.session.hand_over.Goals as goal
 
 pub returns-in-Bytes : goal.returns-in-Bytes

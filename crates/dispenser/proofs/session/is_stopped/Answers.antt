@@ -1,6 +1,5 @@
 -- `dispenser::session::is_stopped` meets its contract. Assumes nothing.
 use Rattle.refusals.proofs.Rules.{tests}
-use borrow.Author.Rules.{rules}
 use Rattle.dispenser.proofs.session.is_stopped.Goals as goal
 
 pub returns-then-line-lt-DOUBTS : goal.returns-then-line-lt-DOUBTS

@@ -2,12 +2,11 @@
 use mathlib.Core.Path.{sym, ◌∙◌}
 use borrow.Author.Tests.{eq-eqb, ne_eqb}
 use Rattle.dispenser_rules.specs.Session.{judge_step}
-use borrow.Author.Rules.{rules}
 use Rattle.dispenser.proofs.session.judge.Goals as goal
 
 pub returns-then-code_of-asked : goal.returns-then-code_of-asked
 unfolding judge_step
-returns-then-code_of-asked c = simp (sym c.gathered_answer.ensures ∙ c.in-Read.is, ← c.code_of.ensures, eq-eqb _ _ c.if-code_of-asked.true, c.done.ensures, c.settled-next.ensures.0, c.pays.ensures, c.closed-shut.ensures, c.send.ensures)
+returns-then-code_of-asked c = simp (sym c.gathered_answer.ensures ∙ c.in-Read.is, ← c.code_of.ensures, eq-eqb _ _ c.if-code_of-asked.true, c.done.ensures, c.settled-next.ensures.value, c.pays.ensures, c.closed-shut.ensures, c.send.ensures)
 
 pub returns-else-code_of-asked : goal.returns-else-code_of-asked
 unfolding judge_step

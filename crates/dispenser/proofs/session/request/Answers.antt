@@ -1,6 +1,5 @@
 -- `dispenser::session::request` meets its contract. Assumes nothing.
 use Rattle.dispenser_rules.specs.Session.{session_request}
-use borrow.Author.Rules.{rules}
 use Rattle.dispenser.proofs.session.request.Goals as goal
 
 pub returns : goal.returns

@@ -1,7 +1,6 @@
 -- `dispenser::session::step_byte` meets its contract, deed by deed. Assumes nothing.
 use borrow.Author.Tests.{lt-ltb, le-ltb}
 use Rattle.dispenser_rules.specs.Session.{byte_step, byte_refusals}
-use borrow.Author.Rules.{rules}
 use Rattle.dispenser.proofs.session.step_byte.Goals as goal
 
 pub returns-then-room-lt-ROOM : goal.returns-then-room-lt-ROOM

@@ -1,6 +1,5 @@
 -- `dispenser::session::step_clear` meets its contract. Assumes nothing.
 use Rattle.dispenser_rules.specs.Session.{clear_step, clear_refusals}
-use borrow.Author.Rules.{rules}
 use Rattle.dispenser.proofs.session.step_clear.Goals as goal
 
 pub returns-then-is_open : goal.returns-then-is_open

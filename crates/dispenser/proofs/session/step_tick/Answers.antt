@@ -1,7 +1,6 @@
 -- `dispenser::session::step_tick` meets its contract. Assumes nothing.
 use borrow.Author.Tests.{lt-ltb, le-ltb, le-leb, lt-leb}
 use Rattle.dispenser_rules.specs.Session.{tick_step, tick_refusals}
-use borrow.Author.Rules.{rules}
 use Rattle.dispenser.proofs.session.step_tick.Goals as goal
 
 pub returns-then-room-lt-ROOM : goal.returns-then-room-lt-ROOM

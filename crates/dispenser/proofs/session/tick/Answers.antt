@@ -1,6 +1,5 @@
 -- `dispenser::session::tick` meets its contract. Assumes nothing.
 use Rattle.dispenser_rules.specs.Session.{session_tick}
-use borrow.Author.Rules.{rules}
 use Rattle.dispenser.proofs.session.tick.Goals as goal
 
 pub returns : goal.returns

@@ -1,7 +1,6 @@
 -- `validator::bills::booked` meets its contract. Assumes nothing.
 use borrow.Author.Tests.{lt-ltb, le-ltb}
 use Rattle.validator_rules.specs.Bills.{booked_by}
-use borrow.Author.Rules.{rules}
 use Rattle.validator.proofs.bills.booked.Goals as goal
 
 pub returns-then-bill-lt-TYPES : goal.returns-then-bill-lt-TYPES

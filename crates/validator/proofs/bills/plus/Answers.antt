@@ -3,7 +3,6 @@ use Prim.Native.Nat.{◌+◌, ◌-◌, ◌≤◌, ◌<◌}
 use borrow.Author.Tests.{le-leb, lt-leb}
 use Rattle.validator_rules.specs.Bills.{plus}
 use native.Mathlib.Omega.{arith}
-use borrow.Author.Rules.{rules}
 use Rattle.validator.proofs.bills.plus.Goals as goal
 
 pub returns-then-n-a : goal.returns-then-n-a

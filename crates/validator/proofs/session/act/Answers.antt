@@ -1,5 +1,4 @@
 -- `validator::session::act` meets its contract, deed by deed. Assumes nothing.
-use borrow.Author.Rules.{rules}
 use Rattle.validator.proofs.session.act.Goals as goal
 
 pub returns-in-Nothing : goal.returns-in-Nothing

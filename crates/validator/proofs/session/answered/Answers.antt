@@ -1,7 +1,6 @@
 -- `validator::session::answered` meets its contract. Assumes nothing.
 use mathlib.Core.Path.{ap}
 use Rattle.validator_rules.specs.Session.{Sent, answered_step}
-use borrow.Author.Rules.{rules}
 use Rattle.validator.proofs.session.answered.Goals as goal
 
 pub returns : goal.returns

@@ -1,6 +1,5 @@
 -- `validator::session::byte` meets its contract. Assumes nothing.
 use Rattle.validator_rules.specs.Session.{session_byte}
-use borrow.Author.Rules.{rules}
 use Rattle.validator.proofs.session.byte.Goals as goal
 
 pub returns : goal.returns

@@ -1,7 +1,6 @@
 -- `validator::session::class_to` meets its contract. Assumes nothing.
 use borrow.Author.Tests.{eq-eqb, ne_eqb}
 use Rattle.validator_rules.specs.Session.{class_to}
-use borrow.Author.Rules.{rules}
 use Rattle.validator.proofs.session.class_to.Goals as goal
 
 pub returns-then-code : goal.returns-then-code

@@ -1,7 +1,6 @@
 -- `validator::session::credit` meets its contract. Assumes nothing.
 use borrow.Author.Tests.{eq-eqb, ne_eqb}
 use Rattle.validator_rules.specs.Bills.{credited}
-use borrow.Author.Rules.{rules}
 use Rattle.validator.proofs.session.credit.Goals as goal
 
 pub returns-then-code : goal.returns-then-code

@@ -1,7 +1,6 @@
 -- `validator::session::damaged` meets its contract. Assumes nothing.
 use mathlib.Core.Path.{ap}
 use Rattle.validator_rules.specs.Session.{Sent, damaged_step}
-use borrow.Author.Rules.{rules}
 use Rattle.validator.proofs.session.damaged.Goals as goal
 
 pub returns : goal.returns

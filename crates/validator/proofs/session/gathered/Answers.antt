@@ -3,7 +3,6 @@ use mathlib.Core.Path.{sym, ap, ◌∙◌}
 use lib.Seq.{length-take-le, take_all}
 use Rattle.validator_rules.specs.Session.{found}
 use native.Mathlib.Omega.{arith}
-use borrow.Author.Rules.{rules}
 use Rattle.validator.proofs.session.gathered.Goals as goal
 
 pub slice_bounds-read-end : goal.slice_bounds-read-end

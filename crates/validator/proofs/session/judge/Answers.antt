@@ -1,7 +1,6 @@
 -- `validator::session::judge` meets its contract. Assumes nothing.
 use mathlib.Core.Path.{sym, ap, ap₂, ◌∙◌}
 use Rattle.validator_rules.specs.Session.{LentAfter, heard_after, judge_step}
-use borrow.Author.Rules.{rules}
 use Rattle.validator.proofs.session.judge.Goals as goal
 
 pub returns-in-Bad : goal.returns-in-Bad

@@ -1,10 +1,8 @@
 -- `validator::session::keep_table` meets its contract. Assumes nothing.
-use mathlib.Core.Path.{◌≡◌, refl, sym, ap, ◌∙◌}
+use mathlib.Core.Path.{sym}
 use lib.Seq.{length-take-le, take_all}
-use Rattle.refusals.proofs.Rules.{cond-true, cond-false}
 use Rattle.validator_rules.specs.Session.{table_said}
 use native.Mathlib.Omega.{arith}
-use borrow.Author.Rules.{rules}
 use Rattle.validator.proofs.session.keep_table.Goals as goal
 
 pub returns-then-not-says_table : goal.returns-then-not-says_table

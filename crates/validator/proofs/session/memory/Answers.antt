@@ -1,7 +1,6 @@
 -- `validator::session::memory` meets its contract. Assumes nothing.
 use borrow.Author.Tests.{eq-eqb, ne_eqb}
 use Rattle.validator_rules.specs.Bills.{remembered}
-use borrow.Author.Rules.{rules}
 use Rattle.validator.proofs.session.memory.Goals as goal
 
 pub returns-then-code : goal.returns-then-code

@@ -1,7 +1,6 @@
 -- `validator::session::read` meets its contract: a good body is never empty, and that of a refused frame always is. Assumes nothing.
 use Rattle.validator_rules.proofs.Reading.{read-bad, read-good}
 use native.Mathlib.Omega.{arith}
-use borrow.Author.Rules.{rules}
 use Rattle.validator.proofs.session.read.Goals as goal
 
 pub returns-then-part-eq0 : goal.returns-then-part-eq0

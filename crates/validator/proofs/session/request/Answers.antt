@@ -1,6 +1,5 @@
 -- `validator::session::request` meets its contract. Assumes nothing.
 use Rattle.validator_rules.specs.Session.{session_request}
-use borrow.Author.Rules.{rules}
 use Rattle.validator.proofs.session.request.Goals as goal
 
 pub returns : goal.returns

@@ -1,6 +1,5 @@
 -- `validator::session::send_command` meets its contract: the room holds it, so that it is never refused. Assumes nothing.
 use Rattle.validator_rules.proofs.Sending.{command-sent, command-not-refused}
-use borrow.Author.Rules.{rules}
 use Rattle.validator.proofs.session.send_command.Goals as goal
 
 pub returns-in-Bytes : goal.returns-in-Bytes

@@ -1,6 +1,5 @@
 -- `validator::session::send_nak` meets its contract: the room holds it, so that it is never refused. Assumes nothing.
 use Rattle.validator_rules.proofs.Sending.{short-sent, short-not-refused}
-use borrow.Author.Rules.{rules}
 use Rattle.validator.proofs.session.send_nak.Goals as goal
 
 pub returns-in-Bytes : goal.returns-in-Bytes

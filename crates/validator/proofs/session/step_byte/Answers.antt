@@ -2,7 +2,6 @@
 use mathlib.Core.Path.{ap}
 use borrow.Author.Tests.{lt-ltb, le-ltb}
 use Rattle.validator_rules.specs.Session.{LentAfter, heard_after, byte_step, byte_refusals}
-use borrow.Author.Rules.{rules}
 use Rattle.validator.proofs.session.step_byte.Goals as goal
 
 pub returns-then-room-lt-ROOM : goal.returns-then-room-lt-ROOM

@@ -4,7 +4,6 @@ use borrow.Author.Tests.{lt-ltb, le-ltb, le-leb, lt-leb}
 use Rattle.validator_rules.specs.Session.{Sent, request_step, request_refusals}
 use Rattle.validator_rules.proofs.Sending.{command-size}
 use native.Mathlib.Omega.{arith}
-use borrow.Author.Rules.{rules}
 use Rattle.validator.proofs.session.step_request.Goals as goal
 
 pub returns-then-room-lt-ROOM : goal.returns-then-room-lt-ROOM

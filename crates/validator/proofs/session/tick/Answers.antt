@@ -1,6 +1,5 @@
 -- `validator::session::tick` meets its contract. Assumes nothing.
 use Rattle.validator_rules.specs.Session.{session_tick}
-use borrow.Author.Rules.{rules}
 use Rattle.validator.proofs.session.tick.Goals as goal
 
 pub returns : goal.returns

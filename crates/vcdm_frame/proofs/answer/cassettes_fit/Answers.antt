@@ -1,7 +1,6 @@
 -- `vcdm_frame::answer::cassettes_fit` meets its contract. Assumes nothing.
 use mathlib.Core.Path.{◌∙◌}
 use Rattle.vcdm_frame_rules.specs.Parts.{cassettes_fit}
-use borrow.Author.Rules.{rules}
 use Rattle.vcdm_frame.proofs.answer.cassettes_fit.Goals as goal
 
 pub returns : goal.returns

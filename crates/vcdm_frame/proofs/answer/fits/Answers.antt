@@ -2,7 +2,6 @@
 use mathlib.Core.Path.{sym, ap₂, ◌∙◌}
 use mathlib.Core.Bool.{◌&&◌}
 use Rattle.vcdm_frame_rules.proofs.Raw.{fits-by}
-use borrow.Author.Rules.{rules}
 use Rattle.vcdm_frame.proofs.answer.fits.Goals as goal
 
 pub returns-in-Reset : goal.returns-in-Reset

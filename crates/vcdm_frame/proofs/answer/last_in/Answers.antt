@@ -1,6 +1,5 @@
 -- `vcdm_frame::answer::last_in` meets its contract. Assumes nothing.
 use Rattle.vcdm_frame_rules.specs.Parts.{answer_from}
-use borrow.Author.Rules.{rules}
 use Rattle.vcdm_frame.proofs.answer.last_in.Goals as goal
 
 pub returns : goal.returns

@@ -3,7 +3,6 @@ use Rattle.xor_frame.specs.Layout.{sizes}
 use Rattle.vcdm_frame_rules.specs.Table.{table, line_in}
 use Rattle.xor_frame.proofs.Check.{laid_by}
 use native.Mathlib.Omega.{arith}
-use borrow.Author.Rules.{rules}
 use Rattle.vcdm_frame.proofs.answer.lay_answer.Goals as goal
 
 pub lay-requires : goal.lay-requires

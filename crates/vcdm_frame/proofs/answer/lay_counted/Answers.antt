@@ -1,7 +1,6 @@
 -- `vcdm_frame::answer::lay_counted` meets its contract: the bytes and their check are the frame. Assumes nothing.
 use Rattle.xor_frame.proofs.Check.{laid_by}
 use Rattle.vcdm_frame_rules.specs.Parts.{counted_frame}
-use borrow.Author.Rules.{rules}
 use Rattle.vcdm_frame.proofs.answer.lay_counted.Goals as goal
 
 pub returns : goal.returns

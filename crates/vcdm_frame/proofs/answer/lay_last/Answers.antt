@@ -1,7 +1,6 @@
 -- `vcdm_frame::answer::lay_last` meets its contract: the bytes and their check are the frame. Assumes nothing.
 use Rattle.xor_frame.proofs.Check.{laid_by}
 use Rattle.vcdm_frame_rules.specs.Parts.{last_frame}
-use borrow.Author.Rules.{rules}
 use Rattle.vcdm_frame.proofs.answer.lay_last.Goals as goal
 
 pub returns : goal.returns

@@ -2,7 +2,6 @@
 use mathlib.Core.Path.{refl}
 use Rattle.xor_frame.proofs.Check.{laid_by}
 use Rattle.vcdm_frame_rules.specs.Parts.{status_frame}
-use borrow.Author.Rules.{rules}
 use Rattle.vcdm_frame.proofs.answer.lay_status.Goals as goal
 
 pub returns : goal.returns

@@ -1,7 +1,6 @@
 -- `vcdm_frame::answer::names_fit` meets its contract. Assumes nothing.
 use mathlib.Core.Path.{◌∙◌}
 use Rattle.vcdm_frame_rules.specs.Parts.{names_fit}
-use borrow.Author.Rules.{rules}
 use Rattle.vcdm_frame.proofs.answer.names_fit.Goals as goal
 
 pub returns : goal.returns

@@ -1,6 +1,5 @@
 -- `vcdm_frame::answer::paid_in` meets its contract. Assumes nothing.
 use Rattle.vcdm_frame_rules.specs.Parts.{paid_from}
-use borrow.Author.Rules.{rules}
 use Rattle.vcdm_frame.proofs.answer.paid_in.Goals as goal
 
 pub returns : goal.returns

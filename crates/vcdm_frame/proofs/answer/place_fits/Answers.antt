@@ -1,7 +1,6 @@
 -- `vcdm_frame::answer::place_fits` meets its contract. Assumes nothing.
 use mathlib.Core.Path.{◌∙◌}
 use Rattle.vcdm_frame_rules.specs.Parts.{place_fits}
-use borrow.Author.Rules.{rules}
 use Rattle.vcdm_frame.proofs.answer.place_fits.Goals as goal
 
 pub returns : goal.returns

@@ -1,7 +1,6 @@
 -- `vcdm_frame::answer::place_in` meets its contract. Assumes nothing.
 use mathlib.Core.Path.{refl}
 use Rattle.vcdm_frame_rules.specs.Parts.{place_from}
-use borrow.Author.Rules.{rules}
 use Rattle.vcdm_frame.proofs.answer.place_in.Goals as goal
 
 pub returns : goal.returns

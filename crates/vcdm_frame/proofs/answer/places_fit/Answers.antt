@@ -1,7 +1,6 @@
 -- `vcdm_frame::answer::places_fit` meets its contract. Assumes nothing.
 use mathlib.Core.Path.{◌∙◌}
 use Rattle.vcdm_frame_rules.specs.Parts.{places_fit}
-use borrow.Author.Rules.{rules}
 use Rattle.vcdm_frame.proofs.answer.places_fit.Goals as goal
 
 pub returns : goal.returns

@@ -19,7 +19,7 @@ returns-then-s-lt6 c = simp (lt-ltb _ _ c.if-s-lt6.true)
 pub read_fields-requires : goal.read_fields-requires
 read_fields-requires c =
     let g = good-frame soh unit_id known answer_fields c.args.s.now (rw (← c.answer_length.ensures) (sym c.judge.ensures ∙ c.in-Good.is)) in
-    (omega (arith, g.1), g.0)
+    record { code_in_bounds = omega (arith, g.1); fact = g.0 }
 
 pub returns-in-Bad : goal.returns-in-Bad
 returns-in-Bad c =

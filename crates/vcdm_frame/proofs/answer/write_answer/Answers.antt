@@ -6,7 +6,6 @@ use Rattle.vcdm_frame_rules.specs.Answer.{answer_fits, write_answer, answer_refu
 use Rattle.vcdm_frame_rules.proofs.Codes.{answer-sized}
 use Rattle.vcdm_frame_rules.proofs.Raw.{answer-laid}
 use native.Mathlib.Omega.{arith}
-use borrow.Author.Rules.{rules}
 use Rattle.vcdm_frame.proofs.answer.write_answer.Goals as goal
 
 pub returns-then-room-n : goal.returns-then-room-n

@@ -1,6 +1,5 @@
 -- `vcdm_frame::command::command_fits` meets its contract. Assumes nothing.
 use mathlib.Core.Path.{◌∙◌}
-use borrow.Author.Rules.{rules}
 use Rattle.vcdm_frame.proofs.command.command_fits.Goals as goal
 
 pub returns : goal.returns

@@ -1,6 +1,5 @@
 -- `vcdm_frame::command::counts_in` meets its contract. Assumes nothing.
 use Rattle.vcdm_frame_rules.specs.Parts.{lowered_counts}
-use borrow.Author.Rules.{rules}
 use Rattle.vcdm_frame.proofs.command.counts_in.Goals as goal
 
 pub returns : goal.returns

@@ -3,7 +3,6 @@ use mathlib.Core.Path.{sym, ◌∙◌}
 use Rattle.vcdm_frame_rules.specs.Table.{known, command_fields}
 use Rattle.vcdm_frame_rules.specs.Command.{askable}
 use Rattle.xor_frame.proofs.Lengths.{length_none, length_some}
-use borrow.Author.Rules.{rules}
 use Rattle.vcdm_frame.proofs.command.is_askable.Goals as goal
 
 pub returns-then-command_length-eq0 : goal.returns-then-command_length-eq0

@@ -3,7 +3,6 @@ use mathlib.Core.Path.{sym, ◌∙◌}
 use Rattle.xor_frame.specs.Layout.{sizes}
 use Rattle.vcdm_frame_rules.specs.Parts.{raised_command}
 use Rattle.xor_frame.proofs.Check.{laid_by}
-use borrow.Author.Rules.{rules}
 use Rattle.vcdm_frame.proofs.command.lay_command.Goals as goal
 
 pub lay-requires : goal.lay-requires

@@ -1,7 +1,6 @@
 -- `vcdm_frame::command::lower` meets its contract. Assumes nothing.
 use Rattle.refusals.proofs.Rules.{tests}
 use Rattle.xor_frame.specs.Parts.{lowered}
-use borrow.Author.Rules.{rules}
 use Rattle.vcdm_frame.proofs.command.lower.Goals as goal
 
 pub returns-then-b-lt32 : goal.returns-then-b-lt32

@@ -1,7 +1,6 @@
 -- `vcdm_frame::command::notes_fit` meets its contract. Assumes nothing.
 use mathlib.Core.Path.{◌∙◌}
 use borrow.Author.Tests.{le-leb, lt-leb}
-use borrow.Author.Rules.{rules}
 use Rattle.vcdm_frame.proofs.command.notes_fit.Goals as goal
 
 pub returns-then-n-gt-MOST : goal.returns-then-n-gt-MOST

@@ -1,6 +1,5 @@
 -- `vcdm_frame::command::serial_fits` meets its contract. Assumes nothing.
 use mathlib.Core.Path.{◌∙◌}
-use borrow.Author.Rules.{rules}
 use Rattle.vcdm_frame.proofs.command.serial_fits.Goals as goal
 
 pub returns-then-asked : goal.returns-then-asked

@@ -6,7 +6,6 @@ use Rattle.vcdm_frame_rules.specs.Command.{command_fits, write_command, command_
 use Rattle.vcdm_frame_rules.proofs.Raw.{command-laid}
 use Rattle.xor_frame.proofs.Lengths.{length_none, length_some, length-known}
 use native.Mathlib.Omega.{arith}
-use borrow.Author.Rules.{rules}
 use Rattle.vcdm_frame.proofs.command.write_command.Goals as goal
 
 pub returns-then-long-eq0 : goal.returns-then-long-eq0
