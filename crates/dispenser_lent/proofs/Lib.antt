@@ -1,2 +1,1 @@
 pub mod Tied
-mod Values

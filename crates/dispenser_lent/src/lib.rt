@@ -8,7 +8,7 @@ use dispenser_rules::{Reply, Session};
 
 // A request: a code, and the notes asked of each cassette (0 where none are).
 pub fn request(session: &mut Session, code: u8, upper: u32, lower: u32, room: &mut [u8]) -> Reply
-    ensures { after (record { session = session.exit.now; reply = result }) room.new ≡ session_request session.entry.now code upper lower room.old }
+    ensures { after (record { session = session.new; reply = result }) room.new ≡ session_request session.old code upper lower room.old }
 {
     let opened = dispenser::request(*session, code, upper, lower, room);
     *session = opened.session;
@@ -17,7 +17,7 @@ pub fn request(session: &mut Session, code: u8, upper: u32, lower: u32, room: &m
 
 // A byte from the dispenser.
 pub fn byte(session: &mut Session, b: u8, room: &mut [u8]) -> Reply
-    ensures { after (record { session = session.exit.now; reply = result }) room.new ≡ session_byte session.entry.now b room.old }
+    ensures { after (record { session = session.new; reply = result }) room.new ≡ session_byte session.old b room.old }
 {
     let heard = dispenser::byte(*session, b, room);
     *session = heard.session;
@@ -26,7 +26,7 @@ pub fn byte(session: &mut Session, b: u8, room: &mut [u8]) -> Reply
 
 // So many milliseconds pass.
 pub fn tick(session: &mut Session, ms: u32, room: &mut [u8]) -> Reply
-    ensures { after (record { session = session.exit.now; reply = result }) room.new ≡ session_tick session.entry.now ms room.old }
+    ensures { after (record { session = session.new; reply = result }) room.new ≡ session_tick session.old ms room.old }
 {
     let passed = dispenser::tick(*session, ms, room);
     *session = passed.session;
@@ -35,7 +35,7 @@ pub fn tick(session: &mut Session, ms: u32, room: &mut [u8]) -> Reply
 
 // The operator clears the line. It is lent no room.
 pub fn clear(session: &mut Session) -> Reply
-    ensures { after (record { session = session.exit.now; reply = result }) [] ≡ session_clear session.entry.now }
+    ensures { after (record { session = session.new; reply = result }) [] ≡ session_clear session.old }
 {
     let cleared = dispenser::clear(*session);
     *session = cleared.session;

@@ -1,4 +1,3 @@
 pub mod Carried
 pub mod Size
 pub mod Tied
-mod Values

@@ -1,7 +1,7 @@
 // The calls that C and Rust make. Each over a lent session is thin: the step over a held session, whose outcome is stored.
 ghost use Rattle.std.specs.Prelude.{◌≡◌, []};
 ghost use Rattle.dispenser_rules.specs.Session.{fresh_session, session_request, session_byte, session_tick, session_clear};
-ghost use Rattle.dispenser_link.specs.Held.{held, session_of, leaves, held_after};
+ghost use Rattle.dispenser_link.specs.Held.{held, session_of, leaves, IsHeldAfter};
 
 use crate::held::{Held, HeldOutcome, HeldReply, HeldSums, held_of, session_of, told};
 use dispenser_rules::{Outcome, Session};
@@ -42,28 +42,28 @@ fn kept(outcome: Outcome) -> HeldOutcome
 }
 
 fn request(session: Held, code: u8, upper: u32, lower: u32, room: &mut [u8]) -> HeldOutcome
-    ensures { held_after result room.new (session_request (session_of session) code upper lower room.old) }
+    ensures { IsHeldAfter result room.new (session_request (session_of session) code upper lower room.old) }
 {
     let outcome = dispenser::request(session_of(session), code, upper, lower, room);
     kept(outcome)
 }
 
 fn byte(session: Held, b: u8, room: &mut [u8]) -> HeldOutcome
-    ensures { held_after result room.new (session_byte (session_of session) b room.old) }
+    ensures { IsHeldAfter result room.new (session_byte (session_of session) b room.old) }
 {
     let outcome = dispenser::byte(session_of(session), b, room);
     kept(outcome)
 }
 
 fn tick(session: Held, ms: u32, room: &mut [u8]) -> HeldOutcome
-    ensures { held_after result room.new (session_tick (session_of session) ms room.old) }
+    ensures { IsHeldAfter result room.new (session_tick (session_of session) ms room.old) }
 {
     let outcome = dispenser::tick(session_of(session), ms, room);
     kept(outcome)
 }
 
 fn clear(session: Held) -> HeldOutcome
-    ensures { held_after result [] (session_clear (session_of session)) }
+    ensures { IsHeldAfter result [] (session_clear (session_of session)) }
 {
     let outcome = dispenser::clear(session_of(session));
     kept(outcome)
@@ -78,7 +78,7 @@ pub extern "C" fn dispenser_request(
     lower: u32,
     room: &mut [u8],
 ) -> HeldReply
-    ensures { held_after (record { session = session.exit.now; reply = result }) room.new (session_request (session_of session.entry.now) code upper lower room.old) }
+    ensures { IsHeldAfter (record { session = session.new; reply = result }) room.new (session_request (session_of session.old) code upper lower room.old) }
 {
     let opened = request(*session, code, upper, lower, room);
     *session = opened.session;
@@ -88,7 +88,7 @@ pub extern "C" fn dispenser_request(
 // A byte from the dispenser.
 #[unsafe(no_mangle)]
 pub extern "C" fn dispenser_byte(session: &mut Held, b: u8, room: &mut [u8]) -> HeldReply
-    ensures { held_after (record { session = session.exit.now; reply = result }) room.new (session_byte (session_of session.entry.now) b room.old) }
+    ensures { IsHeldAfter (record { session = session.new; reply = result }) room.new (session_byte (session_of session.old) b room.old) }
 {
     let heard = byte(*session, b, room);
     *session = heard.session;
@@ -98,7 +98,7 @@ pub extern "C" fn dispenser_byte(session: &mut Held, b: u8, room: &mut [u8]) -> 
 // So many milliseconds pass.
 #[unsafe(no_mangle)]
 pub extern "C" fn dispenser_tick(session: &mut Held, ms: u32, room: &mut [u8]) -> HeldReply
-    ensures { held_after (record { session = session.exit.now; reply = result }) room.new (session_tick (session_of session.entry.now) ms room.old) }
+    ensures { IsHeldAfter (record { session = session.new; reply = result }) room.new (session_tick (session_of session.old) ms room.old) }
 {
     let passed = tick(*session, ms, room);
     *session = passed.session;
@@ -108,7 +108,7 @@ pub extern "C" fn dispenser_tick(session: &mut Held, ms: u32, room: &mut [u8]) -
 // The operator clears the line.
 #[unsafe(no_mangle)]
 pub extern "C" fn dispenser_clear(session: &mut Held) -> HeldReply
-    ensures { held_after (record { session = session.exit.now; reply = result }) [] (session_clear (session_of session.entry.now)) }
+    ensures { IsHeldAfter (record { session = session.new; reply = result }) [] (session_clear (session_of session.old)) }
 {
     let cleared = clear(*session);
     *session = cleared.session;

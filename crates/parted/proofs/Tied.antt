@@ -1,5 +1,5 @@
 -- No contract of this crate leaves a choice: two outcomes that it allows for the same arguments coincide. Said of the contracts themselves: that of `parting` is one
--- equation, and a part that is IsHandedBack back is seen by its place and its bytes. Assumes nothing.
+-- equation, and a part that is handed back is seen by its place and its bytes. Assumes nothing.
 use Prim.Native.Nat.{ℕ}
 use mathlib.Core.Path.{◌≡◌, sym, ap₂, ◌∙◌}
 use mathlib.Core.List.{List}

@@ -17,7 +17,7 @@ use Rattle.parted.specs.declared.Next.TheVariants.{Rest, Malformed}
 use Rattle.parted.specs.declared.Due.{Due}
 use Rattle.parted.specs.declared.Due.TheVariants.{End, Whole, Faulty}
 use Rattle.parted.specs.declared.Turn.TheVariants.{On, Ends}
-use Rattle.parted.specs.Parting.{equal, due_at, beside_record, beside_end, turn_by_lem, turn_at}
+use Rattle.parted.specs.Parting.{equal, due_at, beside_record, beside_end, turn_by, turn_at}
 use Rattle.parted.specs.Promises.{Starts, Follows}
 use Rattle.parted.proofs.Equal.{equal-true, equal-shown, equal-denied}
 use Rattle.parted.proofs.Turns.{due-fits, turn_on, turn_by_lem}
@@ -34,20 +34,20 @@ pub turn-same : (s t s' t' : List ℕ) (at i : ℕ) → due_at s at ≡ due_at s
     → ((n : ℕ) → due_at t at ≡ Whole n → take n (drop at t) ≡ take n (drop i t'))
     → turn_at s t at ≡ turn_at s' t' i
 unfolding turn_at
-turn-same s t s' t' at i ds dt bs bt = by (due_at s at) refl ∙ ap (turn_by_lem s' t' i) ds
+turn-same s t s' t' at i ds dt bs bt = by (due_at s at) refl ∙ ap (turn_by s' t' i) ds
   where
     beside : (n : ℕ) → due_at s at ≡ Whole n → (e : Due) → due_at t at ≡ e → beside_record s t at n e ≡ beside_record s' t' i n e
     beside n p End q = refl
     beside n p (Whole m) q = ap₂ (λ (a b : List ℕ). cond (equal a b).test (On n) (Ends (Rest Student))) (bs n p) (bt m q)
     beside n p (Faulty why) q = refl
 
-    by : (d : Due) → due_at s at ≡ d → turn_by_lem s t at d ≡ turn_by_lem s' t' i d
+    by : (d : Due) → due_at s at ≡ d → turn_by s t at d ≡ turn_by s' t' i d
     by End p = ap beside_end dt
     by (Whole n) p = beside n p (due_at t at) refl ∙ ap (beside_record s' t' i n) dt
     by (Faulty why) p = refl
 
 module _ (s t : List ℕ) (at : ℕ) (h : AllBytes s) (k : AllBytes t) where
-  by_turn : (d : Due) → due_at s at ≡ d → turn_at s t at ≡ turn_by_lem s t at d
+  by_turn : (d : Due) → due_at s at ≡ d → turn_at s t at ≡ turn_by s t at d
   by_turn d p = sym (turn_by_lem s t at d p)
 
   -- ---- it goes on

@@ -19,7 +19,7 @@ use Rattle.parted.specs.declared.Due.{Due}
 use Rattle.parted.specs.declared.Due.TheVariants.{End, Whole, Faulty}
 use Rattle.parted.specs.declared.Turn.{Turn}
 use Rattle.parted.specs.declared.Turn.TheVariants.{On, Ends}
-use Rattle.parted.specs.Parting.{equal, due_of, due_at, beside_record, beside_end, turn_by_lem, turn_at, parted, turned, parting_in, parting_from, parting_of}
+use Rattle.parted.specs.Parting.{equal, due_of, due_at, beside_record, beside_end, turn_by, turn_at, parted, turned, parting_in, parting_from, parting_of}
 use Rattle.parted.proofs.Equal.{equal-shown}
 
 -- ---- in one recording
@@ -78,7 +78,7 @@ turn_on s t at k e = by (due_at s at) refl (due_at t at) refl e
         (record { student = p; reference = q ∙ ap Whole size; bytes = bytes ∙ ap (λ (j : ℕ). take j (drop at t)) size })
     equals n m p q false b w = apart cc
 
-    by : (d : Due) → due_at s at ≡ d → (d' : Due) → due_at t at ≡ d' → turn_by_lem s t at d ≡ On k → Same s t at k
+    by : (d : Due) → due_at s at ≡ d → (d' : Due) → due_at t at ≡ d' → turn_by s t at d ≡ On k → Same s t at k
     by End p End q w = apart (let v = sym (ap beside_end q) ∙ w in cc)
     by End p (Whole m) q w = apart (let v = sym (ap beside_end q) ∙ w in cc)
     by End p (Faulty why) q w = apart (let v = sym (ap beside_end q) ∙ w in cc)
@@ -88,9 +88,9 @@ turn_on s t at k e = by (due_at s at) refl (due_at t at) refl e
     by (Faulty why) p d q w = apart cc
 
 -- by what stands in the student's
-pub turn_by_lem : (s t : List ℕ) (at : ℕ) (d : Due) → due_at s at ≡ d → turn_by_lem s t at d ≡ turn_at s t at
+pub turn_by_lem : (s t : List ℕ) (at : ℕ) (d : Due) → due_at s at ≡ d → turn_by s t at d ≡ turn_at s t at
 unfolding turn_at
-turn_by_lem s t at d e = sym (ap (turn_by_lem s t at) e)
+turn_by_lem s t at d e = sym (ap (turn_by s t at) e)
 
 -- each record compared where it stands: from its place to its end
 module _ (s t : List ℕ) (at n m : ℕ) (e : due_at t at ≡ Whole m) {b : Bool}

@@ -43,13 +43,13 @@ beside_end (Whole m) = Ends (Rest Reference)
 beside_end (Faulty why) = Ends (Malformed Reference why)
 
 -- "if both are, the student's is named"
-abbrev pub turn_by_lem : List ℕ → List ℕ → ℕ → Due → Turn
-turn_by_lem s t at End = beside_end (due_at t at)
-turn_by_lem s t at (Whole n) = beside_record s t at n (due_at t at)
-turn_by_lem s t at (Faulty why) = Ends (Malformed Student why)
+abbrev pub turn_by : List ℕ → List ℕ → ℕ → Due → Turn
+turn_by s t at End = beside_end (due_at t at)
+turn_by s t at (Whole n) = beside_record s t at n (due_at t at)
+turn_by s t at (Faulty why) = Ends (Malformed Student why)
 
 unfoldable pub turn_at : List ℕ → List ℕ → ℕ → Turn
-turn_at s t at = turn_by_lem s t at (due_at s at)
+turn_at s t at = turn_by s t at (due_at s at)
 
 -- ---- from there on
 

@@ -43,7 +43,7 @@ abbrev pub ExactlyWhen : Type 0
 ExactlyWhen = (s t : List ℕ) → AllBytes s → AllBytes t → (p : Parted)
     → (parting_of s t ≡ p) ↔ (Run s t p.at p.records × Follows (drop p.at s) (drop p.at t) p.next)
 
--- two equal recordings of n records hand back the reference's empty rest; and where that is IsHandedBack back, the two are equal, and are n records
+-- two equal recordings of n records hand back the reference's empty rest; and where that is handed back, the two are equal, and are n records
 pub record Equal (s t : List ℕ) (n : ℕ) : Type 0 where
   pub good : List Record
   pub fit : AllInRange good

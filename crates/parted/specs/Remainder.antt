@@ -1,4 +1,4 @@
--- What is IsHandedBack back: "It must be a part of that caller's own bytes, with its place" (02, Q-8).
+-- What is handed back: "It must be a part of that caller's own bytes, with its place" (02, Q-8).
 use Rattle.std.specs.Prelude.{ℕ, ◌-◌, List, length}
 use Rattle.std.specs.Borrow.{Bor}
 use Rattle.ccnet_frame.specs.Part.{Part}

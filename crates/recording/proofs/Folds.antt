@@ -7,7 +7,7 @@ use native.Mathlib.Omega.{arith}
 use lib.ListN.{length, drop, get_or, drop_of_length-le}
 use lib.Seq.{drop-cons}
 use denote.Enum.Declared.{tag_of}
-use types.Run.{OneOf, miss}
+use types.Run.{OneOf, hit, miss}
 use borrow.Author.Tests.{le-leb, lt-leb}
 use Rattle.recording.specs.Record.{most_bytes}
 use Rattle.recording.specs.Reading.{Reading, records, bad, fresh_reader, read_byte, ended, past_in, taken_byte, also, went, closing, reading_from, taking_from, read_recording, verdict_of}
@@ -84,6 +84,12 @@ pub verdict-went : (h : Outcome) → OneOf (0 ∷ 1 ∷ []) (tag_of the_type h) 
 verdict-went More k rest = refl
 verdict-went (Whole x) k rest = verdict-also x rest
 verdict-went (Bad why at) k rest = absurd (miss (0 ∷ 1 ∷ []) 2 tt k)
+
+-- an outcome that shows no fault
+pub no-fault : (h : Outcome) → ((why : Fault) (at : ℕ) → h ≡ Bad why at → ⊥) → OneOf (0 ∷ 1 ∷ []) (tag_of the_type h)
+no-fault More n = hit (0 ∷ 1 ∷ []) 0 tt
+no-fault (Whole x) n = hit (0 ∷ 1 ∷ []) 1 tt
+no-fault (Bad why at) n = absurd (n why at refl)
 
 pub verdict-closing : (v : Verdict) → verdict_of (closing v) ≡ v
 verdict-closing Good = refl

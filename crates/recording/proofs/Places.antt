@@ -8,6 +8,7 @@ use types.Run.{OneOf, hit, miss}
 use Rattle.recording.specs.Record.{is_kind}
 use Rattle.recording.specs.Reading.{awaiting, more, refused_at, kind_byte, grouped, byte_in, read_byte, ended_in, ended, past_in}
 use Rattle.recording.specs.Scaffolding.{place_of}
+use Rattle.recording.specs.declared.Fault.{Fault}
 use Rattle.recording.specs.declared.Fault.TheVariants.{Cut, Unknown, Long}
 use Rattle.recording.specs.declared.Place.{Place}
 use Rattle.recording.specs.declared.Place.TheVariants.{Kind, Code, Upper, Lower, FromDispenser, Milliseconds, FromValidator, ToValidator, Broken}
@@ -25,6 +26,29 @@ Inside p = OneOf within (tag_of the_type p)
 -- no fault was met: between records or inside one
 abbrev pub Sound : Place → Type 0
 Sound p = OneOf (0 ∷ within) (tag_of the_type p)
+
+-- a place that is not the broken one, and a place that is not the kind byte's besides
+pub sound-unless : (p : Place) → ((why : Fault) → p ≡ Broken why → ⊥) → Sound p
+sound-unless Kind n = hit (0 ∷ within) 0 tt
+sound-unless Code n = hit (0 ∷ within) 1 tt
+sound-unless Upper n = hit (0 ∷ within) 2 tt
+sound-unless Lower n = hit (0 ∷ within) 3 tt
+sound-unless FromDispenser n = hit (0 ∷ within) 4 tt
+sound-unless Milliseconds n = hit (0 ∷ within) 5 tt
+sound-unless FromValidator n = hit (0 ∷ within) 6 tt
+sound-unless ToValidator n = hit (0 ∷ within) 7 tt
+sound-unless (Broken why) n = absurd (n why refl)
+
+pub inside-unless : (p : Place) → (p ≡ Kind → ⊥) → ((why : Fault) → p ≡ Broken why → ⊥) → Inside p
+inside-unless Kind k n = absurd (k refl)
+inside-unless Code k n = hit within 1 tt
+inside-unless Upper k n = hit within 2 tt
+inside-unless Lower k n = hit within 3 tt
+inside-unless FromDispenser k n = hit within 4 tt
+inside-unless Milliseconds k n = hit within 5 tt
+inside-unless FromValidator k n = hit within 6 tt
+inside-unless ToValidator k n = hit within 7 tt
+inside-unless (Broken why) k n = absurd (n why refl)
 
 -- past the limit that is 24
 pub past-sound : (p : Place) → Sound p → (r : Reader) (at : ℕ) → past_in p r at ≡ refused_at at Long

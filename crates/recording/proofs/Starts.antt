@@ -5,8 +5,7 @@ use mathlib.Core.Path.{◌≡◌, refl, sym, ap, ◌∙◌, subst}
 use mathlib.Core.Bool.{Bool, true, false, cond}
 use mathlib.Core.List.{List, [], ◌∷◌, ◌++◌}
 use native.Mathlib.Omega.{arith}
-use lib.ListN.{length, take, drop, length-drop, take-append-drop}
-use lib.Seq.{drop-drop}
+use lib.ListN.{length, take, drop, length-drop}
 use types.Run.{hit, miss}
 use Rattle.refusals.specs.Rules.{Condition, under, isnt, judged, ◌gives◌}
 use Rattle.numbers.specs.Seven.{number_end, next_group}
@@ -18,7 +17,7 @@ use Rattle.recording.specs.Reading.{Reading, bad, fresh_reader, awaiting, grown,
 use Rattle.recording.specs.Promises.{AtOnce, bad-number, unknown}
 use Rattle.recording.specs.Taking.{settled, found_from, found_at}
 use Rattle.recording.specs.declared.Fault.{Fault}
-use Rattle.recording.specs.declared.Fault.TheVariants.{BadNumber, Cut, Unknown}
+use Rattle.recording.specs.declared.Fault.TheVariants.{Cut, Unknown}
 use Rattle.recording.specs.declared.Record.{Record}
 use Rattle.recording.specs.declared.Record.TheVariants.{Request, DispenserByte, Tick, ValidatorByte, Command, Clear}
 use Rattle.recording.specs.declared.Place.{Place}

@@ -1,7 +1,6 @@
 -- `parted::beside_end` meets its contract. Assumes nothing.
 use mathlib.Core.Path.{sym, ap, ◌∙◌}
 use Rattle.parted.specs.Parting.{beside_end}
-use borrow.Author.Rules.{rules}
 use Rattle.parted.proofs.beside_end.Goals as goal
 
 pub returns-in-End : goal.returns-in-End

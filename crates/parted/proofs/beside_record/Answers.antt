@@ -3,7 +3,6 @@ use mathlib.Core.Path.{sym, ap, ◌∙◌}
 use Rattle.parted.specs.Parting.{beside_record}
 use Rattle.parted.proofs.Turns.{due-fits, beside-on, beside-other}
 use native.Mathlib.Omega.{arith}
-use borrow.Author.Rules.{rules}
 use Rattle.parted.proofs.beside_record.Goals as goal
 
 pub overflow_add-at : goal.overflow_add-at

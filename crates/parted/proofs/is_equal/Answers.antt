@@ -1,8 +1,7 @@
 -- `parted::is_equal` meets its contract. The invariant: from i on the two are the same exactly where they are from the start on. Assumes nothing.
-use mathlib.Core.Path.{◌≡◌, refl, sym, ap, ◌∙◌}
-use Prim.Native.Nat.{◌-◌, ◌≤◌}
-use lib.ListN.{length, drop}
-use Rattle.parted.specs.Parting.{equal}
+use mathlib.Core.Path.{refl, sym, ap, ◌∙◌}
+use Prim.Native.Nat.{◌-◌}
+use lib.ListN.{length}
 use Rattle.parted.proofs.Equal.{equal-false, equal-on, equal-apart, equal-end}
 use borrow.Author.Rules.{rules}
 use Rattle.parted.proofs.is_equal.Goals as goal

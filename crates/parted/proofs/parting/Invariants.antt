@@ -1,12 +1,8 @@
 -- `parted::parting` meets its contract. The invariant: from here on the two part as they do from the start on, and no record is empty. Assumes nothing.
-use mathlib.Core.Path.{◌≡◌, sym, ◌∙◌}
+use mathlib.Core.Path.{◌≡◌}
 use Prim.Native.Nat.{◌-◌, ◌≤◌}
-use native.Mathlib.Numerals.{add-one}
 use lib.ListN.{length}
 use Rattle.parted.specs.Parting.{parting_from, parting_of}
-use Rattle.parted.proofs.Turns.{Fits, due-fits, Same, turn_on, from_start, from_on, from-ends}
-use native.Mathlib.Omega.{arith}
-use borrow.Author.Rules.{rules}
 use Rattle.parted.proofs.parting.Given as goal
 
 abbrev pub invariant-loop-n : goal.invariant-loop-n

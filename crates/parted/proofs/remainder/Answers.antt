@@ -9,7 +9,6 @@ use Rattle.parted.specs.declared.Parted.{Parted}
 use Rattle.parted.specs.Remainder.{IsHandedBack}
 use Rattle.parted.proofs.Turns.{parted-within}
 use native.Mathlib.Omega.{arith}
-use borrow.Author.Rules.{rules}
 use Rattle.parted.proofs.remainder.Goals as goal
 
 pub slice_bounds-result-count : goal.slice_bounds-result-count
@@ -32,7 +31,7 @@ slice_bounds-result-start-in-Reference c =
     let here = c.args in
     omega (arith, (parted-within here.student.now here.reference.now).reference, ap (λ p. p.at) c.parting-parted.ensures)
 
--- what is IsHandedBack back by what was found
+-- what is handed back by what was found
 handed-as : (s t r : Bor (List ℕ)) (p q : Parted) (next : Next) → p ≡ q → p.next ≡ next → IsHandedBack next p.at s t r → IsHandedBack q.next q.at s t r
 handed-as s t r p q next e f h =
     subst (λ (x : Parted). IsHandedBack x.next x.at s t r) e (subst (λ (n : Next). IsHandedBack n p.at s t r) (sym f) h)

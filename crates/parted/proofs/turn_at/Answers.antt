@@ -1,7 +1,6 @@
 -- `parted::turn_at` meets its contract. Assumes nothing.
 use mathlib.Core.Path.{sym, ◌∙◌}
 use Rattle.parted.proofs.Turns.{turn_by_lem}
-use borrow.Author.Rules.{rules}
 use Rattle.parted.proofs.turn_at.Goals as goal
 
 pub beside_record-requires : goal.beside_record-requires

@@ -45,35 +45,41 @@ bounds-room-0 c = omega (arith, c.requires, ap bytes_of c.in-Clear.is, ap length
 
 pub returns-in-Request : goal.returns-in-Request
 returns-in-Request c =
-    let x = c.x-1.given in
-    let a : List ℕ = 0 ∷ groups x.0.0 in
-    let b : List ℕ = groups x.0.1.0 in
-    let d : List ℕ = groups x.0.1.1.0 in
+    let x = c.in-Request in
+    let a : List ℕ = 0 ∷ groups x.code in
+    let b : List ℕ = groups x.upper in
+    let d : List ℕ = groups x.lower in
     let first = c.lay_one-first.ensures in
     let second = c.lay_number-second.ensures in
     let third = c.lay_number.ensures in
-    let i : c.lay_one-first.result ≡ length a = first.0 ∙ omega arith in
-    let j : c.lay_number-second.result ≡ length (a ++ b) = second.0 ∙ omega (arith, i, length-append a b) in
-    laid-whole c.args.x ((a ++ b) ++ d) _ _ _ (ap record_bytes x.1 ∙ record-request _ _ _ ∙ sym (append_assoc a b d)) (third.0 ∙ omega (arith, j, length-append (a ++ b) d))
-    (laid-behind (a ++ b) d _ _ _ _ j (laid-behind a b _ _ _ _ i first.1 second.1) third.1)
+    let i : c.lay_one-first.result ≡ length a = first.place ∙ omega arith in
+    let j : c.lay_number-second.result ≡ length (a ++ b) = second.place ∙ omega (arith, i, length-append a b) in
+    let w = laid-whole c.args.x ((a ++ b) ++ d) _ _ _ (ap record_bytes x.is ∙ record-request _ _ _ ∙ sym (append_assoc a b d)) (third.place ∙ omega (arith, j, length-append (a ++ b) d))
+    (laid-behind (a ++ b) d _ _ _ _ j (laid-behind a b _ _ _ _ i first.bytes second.bytes) third.bytes) in
+    record { place = w.0; bytes = w.1 }
 
 pub returns-in-DispenserByte : goal.returns-in-DispenserByte
 returns-in-DispenserByte c =
-    laid-whole c.args.x _ _ _ _ (ap record_bytes c.in-DispenserByte.is ∙ record-one (DispenserByte _) _ refl) (c.lay_one.ensures.0 ∙ omega arith) c.lay_one.ensures.1
+    let w = laid-whole c.args.x _ _ _ _ (ap record_bytes c.in-DispenserByte.is ∙ record-one (DispenserByte _) _ refl) (c.lay_one.ensures.place ∙ omega arith) c.lay_one.ensures.bytes in
+    record { place = w.0; bytes = w.1 }
 
 pub returns-in-Tick : goal.returns-in-Tick
 returns-in-Tick c =
-    laid-whole c.args.x _ _ _ _ (ap record_bytes c.in-Tick.is ∙ record-one (Tick _) _ refl) (c.lay_one-in-Tick.ensures.0 ∙ omega arith) c.lay_one-in-Tick.ensures.1
+    let w = laid-whole c.args.x _ _ _ _ (ap record_bytes c.in-Tick.is ∙ record-one (Tick _) _ refl) (c.lay_one-in-Tick.ensures.place ∙ omega arith) c.lay_one-in-Tick.ensures.bytes in
+    record { place = w.0; bytes = w.1 }
 
 pub returns-in-ValidatorByte : goal.returns-in-ValidatorByte
 returns-in-ValidatorByte c =
-    laid-whole c.args.x _ _ _ _ (ap record_bytes c.in-ValidatorByte.is ∙ record-one (ValidatorByte _) _ refl) (c.lay_one-in-ValidatorByte.ensures.0 ∙ omega arith) c.lay_one-in-ValidatorByte.ensures.1
+    let w = laid-whole c.args.x _ _ _ _ (ap record_bytes c.in-ValidatorByte.is ∙ record-one (ValidatorByte _) _ refl) (c.lay_one-in-ValidatorByte.ensures.place ∙ omega arith) c.lay_one-in-ValidatorByte.ensures.bytes in
+    record { place = w.0; bytes = w.1 }
 
 pub returns-in-Command : goal.returns-in-Command
 returns-in-Command c =
-    laid-whole c.args.x _ _ _ _ (ap record_bytes c.in-Command.is ∙ record-one (Command _) _ refl) (c.lay_one-in-Command.ensures.0 ∙ omega arith) c.lay_one-in-Command.ensures.1
+    let w = laid-whole c.args.x _ _ _ _ (ap record_bytes c.in-Command.is ∙ record-one (Command _) _ refl) (c.lay_one-in-Command.ensures.place ∙ omega arith) c.lay_one-in-Command.ensures.bytes in
+    record { place = w.0; bytes = w.1 }
 
 pub returns-in-Clear : goal.returns-in-Clear
 returns-in-Clear c =
     let some : 0 < length c.args.room.now = omega (arith, c.requires, ap bytes_of c.in-Clear.is, ap length record-clear) in
-    laid-whole c.args.x _ _ _ _ (ap record_bytes c.in-Clear.is ∙ record-clear) (omega arith) (over_last _ _ _ 0 refl some)
+    let w = laid-whole c.args.x _ _ _ _ (ap record_bytes c.in-Clear.is ∙ record-clear) (omega arith) (over_last _ _ _ 0 refl some) in
+    record { place = w.0; bytes = w.1 }

@@ -23,7 +23,7 @@ returns-in-Bytes c =
     let w = laid-number here.n here.at here.room.now _ _ c.requires c.write_groups.ensures in
     let put = sym w.0 ∙ c.in-Bytes.is in
     let size : c.in-Bytes.k ≡ length (groups here.n) = cc in
-    (ap (λ (i : ℕ). here.at + i) size, w.1)
+    record { place = ap (λ (i : ℕ). here.at + i) size; bytes = w.1 }
 
 pub returns-in-Refused : goal.returns-in-Refused
 returns-in-Refused c =

@@ -13,4 +13,4 @@ pub returns : goal.returns
 returns c =
     let here = c.args in
     let some : 0 < length here.room.now = search rules in
-    (c.lay_number.ensures.0, c.lay_number.ensures.1 ∙ over-one _ _ _ here.room.now 0 refl some)
+    record { place = c.lay_number.ensures.place; bytes = c.lay_number.ensures.bytes ∙ over-one _ _ _ here.room.now 0 refl some }

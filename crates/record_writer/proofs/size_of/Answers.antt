@@ -6,18 +6,18 @@ use borrow.Author.Rules.{rules}
 use Rattle.record_writer.proofs.size_of.Goals as goal
 
 pub returns-then-n-lt128 : goal.returns-then-n-lt128
-returns-then-n-lt128 c = (one-group _ c.if-n-lt128.true, omega arith)
+returns-then-n-lt128 c = record { groups = one-group _ c.if-n-lt128.true; most = omega arith }
 
 pub returns-then-n-lt16384 : goal.returns-then-n-lt16384
-returns-then-n-lt16384 c = (group-more 1 _ (omega arith) (one-group _ (omega (arith, c.if-n-lt16384.true))), omega arith)
+returns-then-n-lt16384 c = record { groups = group-more 1 _ (omega arith) (one-group _ (omega (arith, c.if-n-lt16384.true))); most = omega arith }
 
 pub returns-then-n-lt2097152 : goal.returns-then-n-lt2097152
-returns-then-n-lt2097152 c = (group-more 2 _ (omega arith) (group-more 1 _ (omega arith) (one-group _ (omega (arith, c.if-n-lt2097152.true)))), omega arith)
+returns-then-n-lt2097152 c = record { groups = group-more 2 _ (omega arith) (group-more 1 _ (omega arith) (one-group _ (omega (arith, c.if-n-lt2097152.true)))); most = omega arith }
 
 pub returns-then-n-lt268435456 : goal.returns-then-n-lt268435456
-returns-then-n-lt268435456 c = (group-more 3 _ (omega arith) (group-more 2 _ (omega arith) (group-more 1 _ (omega arith) (one-group _ (omega (arith, c.if-n-lt268435456.true))))), omega arith)
+returns-then-n-lt268435456 c = record { groups = group-more 3 _ (omega arith) (group-more 2 _ (omega arith) (group-more 1 _ (omega arith) (one-group _ (omega (arith, c.if-n-lt268435456.true))))); most = omega arith }
 
 pub returns : goal.returns
 returns c =
     let small : c.args.n < 4_294_967_296 = search rules in
-    (group-more 4 _ (omega arith) (group-more 3 _ (omega arith) (group-more 2 _ (omega arith) (group-more 1 _ (omega arith) (one-group _ (omega (arith, small)))))), omega arith)
+    record { groups = group-more 4 _ (omega arith) (group-more 3 _ (omega arith) (group-more 2 _ (omega arith) (group-more 1 _ (omega arith) (one-group _ (omega (arith, small)))))); most = omega arith }

@@ -2,7 +2,6 @@
 use mathlib.Core.Path.{sym, ◌∙◌}
 use Rattle.record_writer.proofs.Written.{no_room, not_taken, is-written}
 use native.Mathlib.Omega.{arith}
-use borrow.Author.Rules.{rules}
 use Rattle.record_writer.proofs.write.Goals as goal
 
 pub returns-then-room-length_of : goal.returns-then-room-length_of
@@ -11,7 +10,7 @@ returns-then-room-length_of c = let here = c.args in no_room here.x here.room.no
 pub returns-then-is_taken : goal.returns-then-is_taken
 returns-then-is_taken c =
     let here = c.args in
-    is-written here.x here.room.now (omega (arith, c.if-room-length_of.false, c.length_of.ensures)) _ _ (sym c.is_taken.ensures ∙ c.if-is_taken.true) c.lay-n.ensures.0 c.lay-n.ensures.1
+    is-written here.x here.room.now (omega (arith, c.if-room-length_of.false, c.length_of.ensures)) _ _ (sym c.is_taken.ensures ∙ c.if-is_taken.true) c.lay-n.ensures.place c.lay-n.ensures.bytes
 
 pub returns : goal.returns
 returns c =

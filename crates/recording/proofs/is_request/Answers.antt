@@ -1,7 +1,6 @@
 -- `recording::is_request` meets its contract. Assumes nothing.
 use mathlib.Core.Path.{sym}
 use Rattle.recording.proofs.Lists.{known-above, known-length}
-use borrow.Author.Rules.{rules}
 use Rattle.recording.proofs.is_request.Goals as goal
 
 pub returns-then-code-gt255 : goal.returns-then-code-gt255

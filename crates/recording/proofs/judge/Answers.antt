@@ -1,9 +1,8 @@
 -- `recording::judge` meets its contract. The invariant: the reader goes on from i as the whole recording is judged. Assumes nothing.
-use mathlib.Core.Path.{◌≡◌, sym, ap, ◌∙◌}
-use Prim.Native.Nat.{◌-◌, ◌≤◌}
-use lib.ListN.{length, drop}
-use Rattle.recording.specs.Reading.{taking_from, read_recording, verdict_of, verdict}
-use Rattle.recording.proofs.Folds.{taking-end, taking-bad, taking-on, verdict-closing}
+use mathlib.Core.Path.{sym, ap, ◌∙◌}
+use Prim.Native.Nat.{◌-◌}
+use Rattle.recording.specs.Reading.{read_recording, verdict_of, verdict}
+use Rattle.recording.proofs.Folds.{taking-end, taking-bad, taking-on, verdict-closing, no-fault}
 use borrow.Author.Rules.{rules}
 use Rattle.recording.proofs.judge.Goals as goal
 
@@ -21,7 +20,7 @@ pub loop-i-preserved : goal.loop-i-preserved
 loop-i-preserved c =
     let turn = c.loop-i in (
       search rules,
-      sym (taking-on turn.reader _ turn.i c.loop-i-test.true c.taken-step.result c.taken-step.ensures c.in_default.keys2) ∙ turn.invariant.1,
+      sym (taking-on turn.reader _ turn.i c.loop-i-test.true c.taken-step.result c.taken-step.ensures (no-fault _ c.in_default.not-Bad)) ∙ turn.invariant.1,
     )
 
 pub returns : goal.returns

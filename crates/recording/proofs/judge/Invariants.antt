@@ -1,10 +1,8 @@
 -- `recording::judge` meets its contract. The invariant: the reader goes on from i as the whole recording is judged. Assumes nothing.
-use mathlib.Core.Path.{◌≡◌, sym, ap, ◌∙◌}
+use mathlib.Core.Path.{◌≡◌}
 use Prim.Native.Nat.{◌-◌, ◌≤◌}
 use lib.ListN.{length, drop}
-use Rattle.recording.specs.Reading.{taking_from, read_recording, verdict_of, verdict}
-use Rattle.recording.proofs.Folds.{taking-end, taking-bad, taking-on, verdict-closing}
-use borrow.Author.Rules.{rules}
+use Rattle.recording.specs.Reading.{taking_from, verdict_of, verdict}
 use Rattle.recording.proofs.judge.Given as goal
 
 abbrev pub invariant-loop-i : goal.invariant-loop-i

@@ -1,5 +1,4 @@
 -- `recording::whole` meets its contract. Assumes nothing.
-use borrow.Author.Rules.{rules}
 use Rattle.recording.proofs.whole.Goals as goal
 
 pub returns : goal.returns

@@ -1,5 +1,4 @@
 -- `dispenser_link::calls::byte` meets its contract. Assumes nothing.
-use borrow.Author.Rules.{rules}
 use Rattle.dispenser_link.proofs.calls.byte.Goals as goal
 
 pub returns : goal.returns

@@ -1,5 +1,4 @@
 -- `dispenser_link::calls::clear` meets its contract. Assumes nothing.
-use borrow.Author.Rules.{rules}
 use Rattle.dispenser_link.proofs.calls.clear.Goals as goal
 
 pub returns : goal.returns

@@ -1,5 +1,4 @@
 -- `dispenser_link::calls::dispenser_fresh` meets its contract. Assumes nothing.
-use borrow.Author.Rules.{rules}
 use Rattle.dispenser_link.proofs.calls.dispenser_fresh.Goals as goal
 
 pub returns : goal.returns

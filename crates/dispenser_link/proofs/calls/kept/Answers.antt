@@ -1,5 +1,4 @@
 -- `dispenser_link::calls::kept` meets its contract. Assumes nothing.
-use borrow.Author.Rules.{rules}
 use Rattle.dispenser_link.proofs.calls.kept.Goals as goal
 
 pub returns : goal.returns

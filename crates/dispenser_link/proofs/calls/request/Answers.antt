@@ -1,5 +1,4 @@
 -- `dispenser_link::calls::request` meets its contract. Assumes nothing.
-use borrow.Author.Rules.{rules}
 use Rattle.dispenser_link.proofs.calls.request.Goals as goal
 
 pub returns : goal.returns

@@ -1,5 +1,4 @@
 -- `dispenser_link::held::closed` meets its contract. Assumes nothing.
-use borrow.Author.Rules.{rules}
 use Rattle.dispenser_link.proofs.held.closed.Goals as goal
 
 pub returns-in-Nothing : goal.returns-in-Nothing

@@ -1,5 +1,4 @@
 -- `dispenser_link::held::error_of` meets its contract. Assumes nothing.
-use borrow.Author.Rules.{rules}
 use Rattle.dispenser_link.proofs.held.error_of.Goals as goal
 
 pub returns-in-PaidOne : goal.returns-in-PaidOne

@@ -1,6 +1,5 @@
 -- `dispenser_link::held::held_of` meets its contract. Assumes nothing.
 use Rattle.dispenser_link.specs.Held.{held}
-use borrow.Author.Rules.{rules}
 use Rattle.dispenser_link.proofs.held.held_of.Goals as goal
 
 pub returns : goal.returns

@@ -1,6 +1,5 @@
 -- `dispenser_link::held::session_of` meets its contract. Assumes nothing.
 use Rattle.dispenser_link.specs.Held.{session_of}
-use borrow.Author.Rules.{rules}
 use Rattle.dispenser_link.proofs.held.session_of.Goals as goal
 
 pub returns : goal.returns

@@ -1,5 +1,4 @@
 -- `dispenser_link::held::told` meets its contract. Assumes nothing.
-use borrow.Author.Rules.{rules}
 use Rattle.dispenser_link.proofs.held.told.Goals as goal
 
 pub returns-in-NotDone : goal.returns-in-NotDone

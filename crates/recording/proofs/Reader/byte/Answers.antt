@@ -1,8 +1,7 @@
 -- `recording::Reader::byte` meets its contract. Assumes nothing.
 use mathlib.Core.Path.{sym, ◌∙◌}
 use Rattle.recording.specs.Reading.{read_byte}
-use Rattle.recording.proofs.Places.{begun-byte}
-use borrow.Author.Rules.{rules}
+use Rattle.recording.proofs.Places.{begun-byte, inside-unless}
 use Rattle.recording.proofs.Reader.byte.Goals as goal
 
 pub returns-in-Kind : goal.returns-in-Kind
@@ -14,4 +13,4 @@ unfolding read_byte
 returns-in-Broken c = simp (c.in-Broken.is, c.refused.ensures)
 
 pub returns-in_default : goal.returns-in_default
-returns-in_default c = c.group.ensures ∙ sym (begun-byte c.args.self c.args.at c.args.b c.in_default.keys3)
+returns-in_default c = c.group.ensures ∙ sym (begun-byte c.args.self c.args.at c.args.b (inside-unless _ c.in_default.not-Kind c.in_default.not-Broken))

@@ -2,7 +2,6 @@
 use mathlib.Core.Path.{sym, ◌∙◌}
 use Rattle.recording.specs.Reading.{command_read}
 use Rattle.recording.proofs.Lists.{listed_same}
-use borrow.Author.Rules.{rules}
 use Rattle.recording.proofs.Reader.command.Goals as goal
 
 pub returns-then-is_command : goal.returns-then-is_command

@@ -1,7 +1,6 @@
 -- `recording::Reader::dispenser_byte` meets its contract. Assumes nothing.
 use Rattle.recording.specs.Reading.{byte_read}
 use Rattle.refusals.proofs.Rules.{tests}
-use borrow.Author.Rules.{rules}
 use Rattle.recording.proofs.Reader.dispenser_byte.Goals as goal
 
 pub returns-then-n-gt255 : goal.returns-then-n-gt255

@@ -1,8 +1,7 @@
 -- `recording::Reader::ended` meets its contract. Assumes nothing.
 use mathlib.Core.Path.{sym}
 use Rattle.recording.specs.Reading.{ended}
-use Rattle.recording.proofs.Places.{begun-ended}
-use borrow.Author.Rules.{rules}
+use Rattle.recording.proofs.Places.{begun-ended, inside-unless}
 use Rattle.recording.proofs.Reader.ended.Goals as goal
 
 pub returns-in-Kind : goal.returns-in-Kind
@@ -14,4 +13,4 @@ unfolding ended
 returns-in-Broken c = simp c.in-Broken.is
 
 pub returns-in_default : goal.returns-in_default
-returns-in_default c = sym (begun-ended c.args.self c.in_default.keys3)
+returns-in_default c = sym (begun-ended c.args.self (inside-unless _ c.in_default.not-Kind c.in_default.not-Broken))

@@ -1,6 +1,5 @@
 -- `recording::Reader::group` meets its contract. Assumes nothing.
 use Rattle.recording.specs.Reading.{grouped}
-use borrow.Author.Rules.{rules}
 use Rattle.recording.proofs.Reader.group.Goals as goal
 
 pub returns-in-More : goal.returns-in-More

@@ -4,7 +4,6 @@ use mathlib.Core.Path.{sym, ◌∙◌}
 use native.Mathlib.Omega.{arith}
 use Rattle.recording.specs.Reading.{kind_byte}
 use Rattle.recording.proofs.Places.{other-kind}
-use borrow.Author.Rules.{rules}
 use Rattle.recording.proofs.Reader.kind.Goals as goal
 
 pub returns-then-b-eq0 : goal.returns-then-b-eq0

@@ -1,5 +1,4 @@
 -- `recording::Reader::number` meets its contract, place by place. Assumes nothing.
-use borrow.Author.Rules.{rules}
 use Rattle.recording.proofs.Reader.number.Goals as goal
 
 pub returns-in-Kind : goal.returns-in-Kind

@@ -1,5 +1,4 @@
 -- `recording::Reader::refused` meets its contract. Assumes nothing.
-use borrow.Author.Rules.{rules}
 use Rattle.recording.proofs.Reader.refused.Goals as goal
 
 pub returns : goal.returns

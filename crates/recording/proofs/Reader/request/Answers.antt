@@ -2,7 +2,6 @@
 use mathlib.Core.Path.{sym, ◌∙◌}
 use Rattle.recording.specs.Reading.{request_read}
 use Rattle.recording.proofs.Lists.{known_same}
-use borrow.Author.Rules.{rules}
 use Rattle.recording.proofs.Reader.request.Goals as goal
 
 pub returns-then-is_request : goal.returns-then-is_request

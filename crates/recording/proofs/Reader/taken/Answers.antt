@@ -1,7 +1,6 @@
 -- `recording::Reader::taken` meets its contract. Assumes nothing.
 use mathlib.Core.Path.{sym, ◌∙◌}
 use Rattle.recording.proofs.Folds.{taken-before, taken-past}
-use borrow.Author.Rules.{rules}
 use Rattle.recording.proofs.Reader.taken.Goals as goal
 
 pub returns-then-at-ge-MOST : goal.returns-then-at-ge-MOST

@@ -1,5 +1,4 @@
 -- `recording::taking::glances_in` meets its contract. Assumes nothing.
-use borrow.Author.Rules.{rules}
 use native.Mathlib.Omega.{arith}
 use Rattle.recording.proofs.taking.glances_in.Goals as goal
 

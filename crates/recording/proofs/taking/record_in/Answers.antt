@@ -4,7 +4,6 @@ use Rattle.recording.specs.Taking.{found_at}
 use Rattle.recording.specs.Scaffolding.{IsSure}
 use Rattle.recording.specs.declared.taking.Glance.{Glance}
 use Rattle.recording.proofs.Glances.{glance-fits, glance-found}
-use borrow.Author.Rules.{rules}
 use Rattle.recording.proofs.taking.record_in.Goals as goal
 
 pub at_a_glance-requires : goal.at_a_glance-requires

@@ -1,10 +1,7 @@
 -- `recording::taking::rest_at` meets its contract. The invariant: the reader goes on from i to what is found. Assumes nothing.
-use mathlib.Core.Path.{◌≡◌, refl, sym, ◌∙◌}
-use Prim.Native.Nat.{◌-◌, ◌≤◌}
-use lib.ListN.{length, drop}
-use Rattle.recording.specs.Taking.{found_from}
+use mathlib.Core.Path.{refl, sym, ◌∙◌}
+use Prim.Native.Nat.{◌-◌}
 use Rattle.recording.proofs.Glances.{found-start, goes_on, is_whole, is-bad, found-end}
-use borrow.Author.Rules.{rules}
 use native.Mathlib.Omega.{arith}
 use Rattle.recording.proofs.taking.rest_at.Goals as goal
 
