@@ -1,6 +1,6 @@
 -- How a recording is cut does not tell: a piece is fed byte by byte, and so are pieces one after the other. After a fault nothing changes, and no count wraps.
 -- Assumes nothing.
-use Prim.Native.Nat.{ℕ, suc, ◌+◌, ◌≤◌, ◌<◌}
+use Prim.Native.Nat.{ℕ, ◌+◌, ◌≤◌, ◌<◌}
 use mathlib.Core.Path.{◌≡◌, refl, sym, ap, ◌∙◌, subst}
 use mathlib.Core.Bool.{Bool, true, false, cond, ◌||◌}
 use mathlib.Core.List.{List, [], ◌∷◌, ◌++◌, flatten}
@@ -12,14 +12,12 @@ use Rattle.refusals.specs.Rules.{at_most}
 use Rattle.refusals.proofs.Rules.{by_cases}
 use Rattle.dispenser_rules.specs.Session.{session_request, session_byte, session_tick, session_clear}
 use Rattle.validator_rules.specs.Session.{session_request as taker_request, session_byte as taker_byte, session_tick as taker_tick}
-use Rattle.recording.specs.Record.{most_bytes, fault_number}
-use Rattle.recording.specs.Reading.{Reading, records, bad, fresh_reader, awaiting, more, whole, refused_at, taken_byte, ended, also, went, closing, taking_from, read_recording}
-use Rattle.recording.specs.Promises.{Stays}
+use Rattle.recording.specs.Record.{most_bytes}
+use Rattle.recording.specs.Reading.{Reading, records, bad, fresh_reader, awaiting, taken_byte, ended, also, went, closing, taking_from, read_recording}
 use Rattle.recording.specs.declared.Fault.{Fault}
 use Rattle.recording.specs.declared.Fault.TheVariants.{Cut}
 use Rattle.recording.specs.declared.Record.{Record}
 use Rattle.recording.specs.declared.Record.TheVariants.{Request, DispenserByte, Tick, ValidatorByte, Command, Clear}
-use Rattle.recording.specs.declared.Place.{Place}
 use Rattle.recording.specs.declared.Place.TheVariants.{Broken}
 use Rattle.recording.specs.declared.Reader.{Reader}
 use Rattle.recording.specs.declared.Step.{Step}
@@ -31,12 +29,11 @@ use Rattle.recording.proofs.Places.{within, Inside, begun-ended}
 use Rattle.recording.proofs.Faults.{broken-byte, taken-low}
 use Rattle.recording.proofs.Folds.{taking-nil, taking-cons}
 use Rattle.recording.proofs.Limit.{Ready, Leaves, goes, ends, breaks, leaves, past-faulty}
-use Rattle.grading_rules.specs.Replay.{fresh_desk, lent_room, lent_room255, payer_declines, taker_declines, given, run, told, bad_findings, replayed}
+use Rattle.grading_rules.specs.Replay.{fresh_desk, lent_room, lent_room255, payer_declines, taker_declines, given, run, bad_findings, replayed}
 use Rattle.grading_rules.specs.Feeding.{fresh_replay, broken_at, after_byte, fed_byte, fed_piece, fed_pieces, ended_as, ended_replay, replay_of}
 use Rattle.grading_rules.specs.Promises.{HoweverCut, AfterFault, Counted, StaysCounted}
 use Rattle.grading_rules.specs.declared.desk.Desk.{Desk}
 use Rattle.grading_rules.specs.declared.desk.Replaying.{Replaying}
-use Rattle.grading_rules.specs.declared.findings.Findings.{Findings}
 
 -- ---- pieces, one after the other
 

@@ -7,15 +7,13 @@ use native.Mathlib.Omega.{arith}
 use lib.ListN.{length, length-replicate}
 use Rattle.refusals.specs.Rules.{under, at_most}
 use Rattle.refusals.proofs.Rules.{certain}
-use Rattle.ledger.specs.Events.{History}
-use Rattle.ledger.specs.Account.{Ending}
 use Rattle.ledger.specs.Calls.{IsDone, seen}
 use Rattle.exchange_rules.specs.Exchange.{is_open}
 use Rattle.exchange_rules.specs.declared.line.Phase.{Phase}
 use Rattle.exchange_rules.specs.declared.line.Phase.TheVariants.{Idle, First, Start, Inside}
 use Rattle.exchange_rules.proofs.Demand3.{Kept, next-kept}
 use Rattle.dispenser_rules.specs.Session.{byte_refusals as host_refusals, fresh_session, session_byte}
-use Rattle.dispenser_rules.specs.Calls.{Call, request, byte, tick, clear, called, Request, Own, host, returned as host_returned}
+use Rattle.dispenser_rules.specs.Calls.{Call, request, byte, tick, clear, called, host, returned as host_returned}
 use Rattle.dispenser_rules.specs.declared.session.Session.{Session}
 use Rattle.dispenser_rules.proofs.Shown.{lawful}
 use Rattle.dispenser_rules.proofs.Same.{session}

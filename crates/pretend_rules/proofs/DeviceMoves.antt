@@ -25,7 +25,7 @@ use Rattle.exchange_rules.specs.declared.line.Phase.{Phase}
 use Rattle.exchange_rules.specs.declared.line.Phase.TheVariants.{Idle, First, Start, Inside}
 use Rattle.exchange_rules.proofs.Views.{one-put}
 use Rattle.dispenser_rules.specs.Unit.{unit, request_of}
-use Rattle.pretend_rules.specs.Limits.{code_place, answer_limit}
+use Rattle.pretend_rules.specs.Limits.{command_wait, code_place, answer_limit}
 use Rattle.pretend_rules.specs.Wire.{turn, hearing, reading, sent, waits, is_awaiting, idle_byte, code_byte, last_byte, command_byte, answer_byte, heard_in, heard, expired_in, expired, passed}
 use Rattle.pretend_rules.specs.Tally.{told}
 use Rattle.pretend_rules.specs.Device.{StepAfter, ByteAfter, step_after, byte_after, done_after, refused_step, send, acted, judged_step, judge_step, byte_acted, byte_refusals, tick_refusals, tell_refusals, byte_step, tick_step, tell_step, suits, by_byte, by_tick, by_telling, device_byte, device_tick, device_tell}
@@ -186,7 +186,8 @@ module _ (b : Bench) (k : Together b) (x : ℕ) (rest r : List ℕ) (e : b.to_de
       let four : x ≡ 0x04 = ap (λ (l : List ℕ). get_or l 0 0) down ∙ command-opens a.code a.upper a.lower in
       let kept : take 1 (set b.device.store b.device.wire.gathered x) ≡ x ∷ [] =
       ap (λ (i : ℕ). take 1 (set b.device.store i x)) none ∙ take-suc-set b.device.store 0 x (omega (arith, k.store)) in
-      pick Hears (same x 0x04) _ _
+      pick Hears (same x 0x04) (hearing (reading b.device.wire command_wait 1 (code_place + 1)) Keep)
+      (hearing (waits b.device.wire b.device.wire.left) (Do Nothing))
       (λ g.
       on Reading _ p (
         record { agree = j.agree; owed = j.owed; whole = ap (λ (l : List ℕ). l ++ rest) kept ∙ down; above = none-put j.above },

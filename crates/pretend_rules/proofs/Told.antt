@@ -1,16 +1,16 @@
 -- The device stands where its history says, and answers, at every call, what is due by that history: what it puts, what it tells, and the numbers. Assumes nothing.
 use Prim.Native.Nat.{ℕ, ◌+◌, ◌-◌, ◌≤◌, ◌<◌}
 use mathlib.Core.Path.{◌≡◌, refl, sym, ap, ◌∙◌, subst}
-use mathlib.Core.Bool.{true, false, cond, ◌&&◌, true≢false}
+use mathlib.Core.Bool.{true, false, cond, true≢false}
 use mathlib.Core.List.{List, [], ◌∷◌, ◌++◌, append-nil}
 use native.Mathlib.Nat.{add-zero}
 use native.Mathlib.Numerals.{add-one}
 use native.Mathlib.Omega.{arith}
 use lib.Dec.{eqb, ltb, lit≤, lit<}
 use lib.ListN.{length, take, set, get_or, length-append, length-set, length-replicate, get_or-append}
-use lib.Seq.{length-take-le, take-suc-set, get_or_at}
+use lib.Seq.{take-suc-set, get_or_at}
 use borrow.Author.Tests.{lt-ltb}
-use Rattle.refusals.specs.Rules.{Rule, says, under, at_most, same, both, isnt, ◌gives◌}
+use Rattle.refusals.specs.Rules.{says, under, at_most, same, both, isnt, ◌gives◌}
 use Rattle.refusals.specs.Put.{over}
 use Rattle.refusals.specs.declared.Declined.{Declined}
 use Rattle.refusals.specs.declared.Declined.TheVariants.{Range, Unawaited}
@@ -28,21 +28,20 @@ use Rattle.dispenser_frame_rules.proofs.Trips.{answer-length}
 use Rattle.ledger.specs.Events.{Deed, hears, waits as passes, own, goes_on, closes, declined, done, is_frame}
 use Rattle.ledger.specs.Account.{counted}
 use Rattle.ledger.specs.Waiting.{some, from, waited}
-use Rattle.ledger.specs.Calls.{told, seen, run, history_from, Declines}
+use Rattle.ledger.specs.Calls.{told, seen, run, history_from}
 use Rattle.ledger.proofs.Waiting.{start-next, start-more, some-long}
 use Rattle.ledger.proofs.Declining.{rising, given-alike}
 use Rattle.pretend_rules.specs.Limits.{command_wait, silence, sending_limit, answer_limit, code_place}
 use Rattle.pretend_rules.specs.Wire.{idle, awaiting, sent, waits, is_awaiting, idle_byte, code_byte, last_byte, command_byte, again, answer_byte, heard_in, heard, expired_in, expired, passed, does}
 use Rattle.pretend_rules.specs.Device.{StepAfter, ByteAfter, After, step_after, byte_after, done_after, refused_step, send, acted, judged_step, judge_step, byte_acted, byte_refusals, tick_refusals, tell_refusals, byte_step, tick_step, tell_step, suits, tallied_by, by_byte, by_tick, by_telling, fresh_device, device_byte, device_tick, device_tell}
-use Rattle.pretend_rules.specs.Calls.{Call, byte, tick, tell, called, lent, deed, returned, ending, host, History, history, ended, took}
-use Rattle.pretend_rules.specs.History.{Place, free, awaits, sends, place, come, begun, answered, sendings, turns, place_by, Due, due, nothing, nak, due_full, due_command, due_again, due_byte, due_tick, due_by, Answers, ToldByHistory, is_awaited, misfits, history_refusals, DeclinesByHistory}
+use Rattle.pretend_rules.specs.Calls.{Call, byte, tick, tell, called, lent, deed, returned, ending, host, History, history, ended}
+use Rattle.pretend_rules.specs.History.{Place, free, awaits, sends, place, come, begun, answered, sendings, turns, place_by, Due, due, nothing, nak, due_full, due_command, due_again, due_byte, due_tick, due_by, Answers, ToldByHistory, is_awaited, misfits, DeclinesByHistory}
 use Rattle.pretend_rules.specs.declared.wire.Stand.{Stand}
 use Rattle.pretend_rules.specs.declared.wire.Stand.TheVariants.{Idle, Reading, Awaiting, Sent}
 use Rattle.pretend_rules.specs.declared.wire.Wire.{Wire}
 use Rattle.pretend_rules.specs.declared.wire.Act.{Act}
 use Rattle.pretend_rules.specs.declared.wire.Act.TheVariants.{Nothing as Rest, Nak, Again, Finish}
 use Rattle.pretend_rules.specs.declared.wire.Turn.{Turn}
-use Rattle.pretend_rules.specs.declared.wire.Heard.TheVariants.{Judge}
 use Rattle.pretend_rules.specs.declared.wire.Hearing.{Hearing}
 use Rattle.pretend_rules.specs.declared.device.Happening.TheVariants.{Nothing, Taken, Ended}
 use Rattle.pretend_rules.specs.declared.device.Reply.TheVariants.{NotDone, Done}

@@ -5,7 +5,6 @@ use Rattle.refusals.specs.Put.{over}
 use Rattle.numbers.specs.Decimal.{digits, digits_only, number, number_from}
 use Rattle.xor_frame.specs.Layout.{sizes, all_in_range, all_bytes, all_values, all_fit}
 use Rattle.xor_frame.specs.Frame as frames
-use Rattle.error_codes.specs.Errors as errors
 use Rattle.dispenser_frame_rules.specs.Table.{table, code_in, line_in}
 use Rattle.dispenser_frame_rules.specs.Command.{counts_fit, sendable, command_frame, command_refusals, write_command, command_in, read_command}
 use Rattle.dispenser_frame_rules.specs.Answer.{answer_fits, answer_frame, answer_refusals, write_answer, read_answer}

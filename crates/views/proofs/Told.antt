@@ -1,31 +1,30 @@
 -- After any calls at all a view is what their history says. Assumes nothing.
-use Prim.Native.Nat.{ℕ, ◌+◌, ◌-◌, ◌≤◌, ◌<◌}
-use mathlib.Core.Path.{◌≡◌, refl, sym, ap, ap₂, ◌∙◌, subst}
+use Prim.Native.Nat.{ℕ, ◌-◌, ◌≤◌}
+use mathlib.Core.Path.{◌≡◌, refl, sym, ap, ap₂, ◌∙◌}
 use mathlib.Core.Bool.{Bool, true, false, cond}
-use mathlib.Core.List.{List, [], ◌∷◌}
+use mathlib.Core.List.{List, []}
 use native.Mathlib.Omega.{arith}
 use lib.Dec.{ltb, eqb}
-use lib.ListN.{length, take, get_or}
+use lib.ListN.{length, get_or}
 use lib.Seq.{length-take-le}
 use Rattle.refusals.specs.Rules.{under}
 use Rattle.refusals.proofs.Rules.{pick, holds-true, fails-false, cond-true, cond-false}
 use Rattle.ledger.specs.Events.{since}
-use Rattle.ledger.specs.Line.{is_open, quiet_time, quiet_needed}
-use Rattle.ledger.specs.Account.{Command, commands}
+use Rattle.ledger.specs.Line.{quiet_time}
 use Rattle.ledger.specs.Waiting.{some, waited}
 use Rattle.ledger.specs.Told.{naks, begun, turns, wait}
 use Rattle.ledger.specs.Calls.{run}
 use Rattle.ledger.proofs.Waiting.{some-long, begun-came, unbegun-first}
-use Rattle.ledger.proofs.Follows.{OpenIn, At, as-open}
+use Rattle.ledger.proofs.Follows.{OpenIn, At}
 use Rattle.exchange_rules.specs.Limits.{quiet, first_wait, answer_wait, nak_wait, frame_wait}
-use Rattle.exchange_rules.specs.Machine.{discipline, quiet_after}
+use Rattle.exchange_rules.specs.Machine.{discipline}
 use Rattle.exchange_rules.specs.Kept.{Stands}
 use Rattle.exchange_rules.specs.declared.line.Phase.{Phase}
 use Rattle.exchange_rules.specs.declared.line.Phase.TheVariants.{Idle, First, Start, Inside}
 use Rattle.exchange_rules.proofs.Views.{stage, view as seen_as, rules}
 use Rattle.exchange_rules.proofs.Demand3.{Kept, run-kept}
 use Rattle.dispenser_rules.specs.Session.{fresh_session}
-use Rattle.dispenser_rules.specs.Calls.{Call, Request, host, history}
+use Rattle.dispenser_rules.specs.Calls.{host, history}
 use Rattle.dispenser_rules.specs.Unit.{model2000_t, unit, box}
 use Rattle.dispenser_rules.specs.declared.session.Session.{Session}
 use Rattle.dispenser_rules.proofs.Shown.{lawful}
@@ -39,9 +38,8 @@ use Rattle.validator_rules.specs.declared.line.Phase.{Phase as TakerPhase}
 use Rattle.validator_rules.specs.declared.line.Phase.TheVariants.{Idle as TakerIdle, Start as TakerStart, Inside as TakerInside}
 use Rattle.validator_rules.specs.declared.line.Line.{Line as TakerLine}
 use Rattle.validator_rules.proofs.Agreeing.{Placed, always-placed}
-use Rattle.views.specs.View.{view, idle, busy, start_limit, dispenser_in, dispenser_view, validator_in, validator_view}
-use Rattle.views.specs.History.{up_to, Past, handed_of, span_of, standing, open_by, idle_by, view_by, DispenserTold, taker_open, taker_by, ValidatorTold}
-use Rattle.views.specs.declared.View.{View}
+use Rattle.views.specs.View.{view, busy, start_limit, dispenser_in, dispenser_view, validator_in, validator_view}
+use Rattle.views.specs.History.{up_to, Past, handed_of, span_of, standing, view_by, DispenserTold, taker_by, ValidatorTold}
 
 -- what is not left of a wait has passed, up to its limit
 pub passed_is : (limit left t : ℕ) → left ≡ limit - t → limit - left ≡ up_to limit t

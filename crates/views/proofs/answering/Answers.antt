@@ -1,5 +1,4 @@
 -- `views::answering` meets its contract: the validator's answer. Assumes nothing.
-use borrow.Author.Rules.{rules}
 use Rattle.views.proofs.answering.Goals as goal
 
 pub returns : goal.returns

@@ -1,5 +1,4 @@
 -- `views::busy` meets its contract: an open command. Assumes nothing.
-use borrow.Author.Rules.{rules}
 use Rattle.views.proofs.busy.Goals as goal
 
 pub returns : goal.returns

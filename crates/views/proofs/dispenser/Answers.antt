@@ -1,6 +1,5 @@
 -- `views::dispenser` meets its contract: phase by phase. Assumes nothing.
 use Rattle.views.specs.View.{dispenser_view}
-use borrow.Author.Rules.{rules}
 use Rattle.views.proofs.dispenser.Goals as goal
 
 pub returns-in-Idle : goal.returns-in-Idle

@@ -1,5 +1,4 @@
 -- `views::idle` meets its contract: a line with nothing open. Assumes nothing.
-use borrow.Author.Rules.{rules}
 use Rattle.views.proofs.idle.Goals as goal
 
 pub returns : goal.returns

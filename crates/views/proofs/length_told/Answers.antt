@@ -1,6 +1,5 @@
 -- `views::length_told` meets its contract: from the third byte on. Assumes nothing.
 use borrow.Author.Tests.{le-ltb, lt-ltb}
-use borrow.Author.Rules.{rules}
 use Rattle.views.proofs.length_told.Goals as goal
 
 pub returns-then-gathered-lt3 : goal.returns-then-gathered-lt3

@@ -1,7 +1,6 @@
 -- `views::start_limit` meets its contract: the two waits for a start. Assumes nothing.
 use Rattle.views.specs.View.{start_limit}
 use borrow.Author.Tests.{eq-eqb, ne_eqb}
-use borrow.Author.Rules.{rules}
 use Rattle.views.proofs.start_limit.Goals as goal
 
 pub returns-then-naks-eq0 : goal.returns-then-naks-eq0

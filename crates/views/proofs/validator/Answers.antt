@@ -1,6 +1,5 @@
 -- `views::validator` meets its contract: phase by phase. Assumes nothing.
 use Rattle.views.specs.View.{validator_view}
-use borrow.Author.Rules.{rules}
 use Rattle.views.proofs.validator.Goals as goal
 
 pub returns-in-Idle : goal.returns-in-Idle

@@ -1,5 +1,4 @@
 -- `pretend::device::act_on` meets its contract, act by act. Assumes nothing.
-use borrow.Author.Rules.{rules}
 use Rattle.pretend.proofs.device.act_on.Goals as goal
 
 pub returns-in-Nothing : goal.returns-in-Nothing

@@ -1,6 +1,5 @@
 -- `pretend::device::byte` meets its contract. Assumes nothing.
 use Rattle.pretend_rules.specs.Device.{device_byte}
-use borrow.Author.Rules.{rules}
 use Rattle.pretend.proofs.device.byte.Goals as goal
 
 pub returns : goal.returns

@@ -1,5 +1,4 @@
 -- `pretend::device::code_by` meets its contract. Assumes nothing.
-use borrow.Author.Rules.{rules}
 use Rattle.pretend.proofs.device.code_by.Goals as goal
 
 pub returns-in-Done : goal.returns-in-Done

@@ -3,7 +3,6 @@ use mathlib.Core.Path.{sym, ap, ◌∙◌}
 use lib.Seq.{length-take-le, take_all}
 use Rattle.dispenser_frame_rules.specs.Command.{read_command}
 use native.Mathlib.Omega.{arith}
-use borrow.Author.Rules.{rules}
 use Rattle.pretend.proofs.device.gathered_command.Goals as goal
 
 pub slice_bounds-read_command-end : goal.slice_bounds-read_command-end

@@ -2,7 +2,6 @@
 use mathlib.Core.Path.{sym, ◌∙◌}
 use borrow.Author.Tests.{lt-ltb, le-ltb}
 use Rattle.pretend_rules.specs.Device.{judge_step}
-use borrow.Author.Rules.{rules}
 use Rattle.pretend.proofs.device.judge.Goals as goal
 
 pub returns-then-wire-lt-COMMANDS : goal.returns-then-wire-lt-COMMANDS

@@ -1,7 +1,6 @@
 -- `pretend::device::keep` meets its contract. Assumes nothing.
 use mathlib.Core.Path.{sym}
 use lib.Seq.{set_out}
-use borrow.Author.Rules.{rules}
 use Rattle.pretend.proofs.device.keep.Goals as goal
 
 pub returns-else-at-store : goal.returns-else-at-store

@@ -1,6 +1,5 @@
 -- `pretend::device::send_answer` meets its contract. Assumes nothing.
 use Rattle.pretend_rules.specs.Device.{send}
-use borrow.Author.Rules.{rules}
 use Rattle.pretend.proofs.device.send_answer.Goals as goal
 
 pub returns-in-Bytes : goal.returns-in-Bytes

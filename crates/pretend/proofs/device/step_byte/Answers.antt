@@ -1,7 +1,6 @@
 -- `pretend::device::step_byte` meets its contract, deed by deed. Assumes nothing.
 use borrow.Author.Tests.{lt-ltb, le-ltb}
 use Rattle.pretend_rules.specs.Device.{byte_step, byte_refusals}
-use borrow.Author.Rules.{rules}
 use Rattle.pretend.proofs.device.step_byte.Goals as goal
 
 pub returns-then-room-lt-ROOM : goal.returns-then-room-lt-ROOM

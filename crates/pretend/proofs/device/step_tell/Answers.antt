@@ -3,7 +3,6 @@ use mathlib.Core.Path.{sym, ◌∙◌}
 use borrow.Author.Tests.{lt-ltb}
 use Rattle.pretend_rules.specs.Device.{tell_step, tell_refusals}
 use Rattle.pretend.proofs.Telling.{tell-unawaited, tell-range, tell-sends, tell-refused}
-use borrow.Author.Rules.{rules}
 use Rattle.pretend.proofs.device.step_tell.Goals as goal
 
 pub returns-then-room-lt-ROOM : goal.returns-then-room-lt-ROOM

@@ -1,7 +1,6 @@
 -- `pretend::device::step_tick` meets its contract. Assumes nothing.
 use borrow.Author.Tests.{lt-ltb, le-ltb, le-leb, lt-leb}
 use Rattle.pretend_rules.specs.Device.{tick_step, tick_refusals}
-use borrow.Author.Rules.{rules}
 use Rattle.pretend.proofs.device.step_tick.Goals as goal
 
 pub returns-then-room-lt-ROOM : goal.returns-then-room-lt-ROOM

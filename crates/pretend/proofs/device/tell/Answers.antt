@@ -1,6 +1,5 @@
 -- `pretend::device::tell` meets its contract. Assumes nothing.
 use Rattle.pretend_rules.specs.Device.{device_tell}
-use borrow.Author.Rules.{rules}
 use Rattle.pretend.proofs.device.tell.Goals as goal
 
 pub returns : goal.returns

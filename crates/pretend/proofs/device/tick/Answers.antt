@@ -1,6 +1,5 @@
 -- `pretend::device::tick` meets its contract. Assumes nothing.
 use Rattle.pretend_rules.specs.Device.{device_tick}
-use borrow.Author.Rules.{rules}
 use Rattle.pretend.proofs.device.tick.Goals as goal
 
 pub returns : goal.returns

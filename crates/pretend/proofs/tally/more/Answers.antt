@@ -1,6 +1,5 @@
 -- `pretend::tally::more` meets its contract. Assumes nothing.
 use Rattle.pretend_rules.specs.Tally.{more}
-use borrow.Author.Rules.{rules}
 use Rattle.pretend.proofs.tally.more.Goals as goal
 
 pub returns : goal.returns

@@ -1,5 +1,4 @@
 -- `pretend::tally::paid_more` meets its contract. Assumes nothing.
-use borrow.Author.Rules.{rules}
 use Rattle.pretend.proofs.tally.paid_more.Goals as goal
 
 pub returns-in-Upper : goal.returns-in-Upper

@@ -1,6 +1,5 @@
 -- `pretend::tally::rejected_more` meets its contract. Assumes nothing.
 use Rattle.pretend_rules.specs.Tally.{rejected_more}
-use borrow.Author.Rules.{rules}
 use Rattle.pretend.proofs.tally.rejected_more.Goals as goal
 
 pub returns : goal.returns

@@ -1,5 +1,4 @@
 -- `pretend::tally::tallied` meets its contract. Assumes nothing.
-use borrow.Author.Rules.{rules}
 use Rattle.pretend.proofs.tally.tallied.Goals as goal
 
 pub returns-in-Done : goal.returns-in-Done

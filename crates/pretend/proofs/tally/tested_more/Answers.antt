@@ -1,5 +1,4 @@
 -- `pretend::tally::tested_more` meets its contract. Assumes nothing.
-use borrow.Author.Rules.{rules}
 use Rattle.pretend.proofs.tally.tested_more.Goals as goal
 
 pub returns-in-Upper : goal.returns-in-Upper

@@ -1,5 +1,4 @@
 -- `pretend::tally::told` meets its contract, kind by kind of answer. Assumes nothing.
-use borrow.Author.Rules.{rules}
 use Rattle.pretend.proofs.tally.told.Goals as goal
 
 pub returns-in-PaidOne : goal.returns-in-PaidOne

@@ -1,7 +1,6 @@
 -- `pretend::wire::again` meets its contract. Assumes nothing.
 use borrow.Author.Tests.{lt-ltb, le-ltb}
 use Rattle.pretend_rules.specs.Wire.{again}
-use borrow.Author.Rules.{rules}
 use Rattle.pretend.proofs.wire.again.Goals as goal
 
 pub returns-then-was-lt-SENDINGS : goal.returns-then-was-lt-SENDINGS

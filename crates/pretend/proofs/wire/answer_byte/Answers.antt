@@ -1,7 +1,6 @@
 -- `pretend::wire::answer_byte` meets its contract. Assumes nothing.
 use borrow.Author.Tests.{eq-eqb, ne_eqb}
 use Rattle.pretend_rules.specs.Wire.{answer_byte}
-use borrow.Author.Rules.{rules}
 use Rattle.pretend.proofs.wire.answer_byte.Goals as goal
 
 pub returns-then-b-eq6 : goal.returns-then-b-eq6

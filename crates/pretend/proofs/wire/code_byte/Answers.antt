@@ -3,7 +3,6 @@ use mathlib.Core.Path.{sym, ◌∙◌}
 use Rattle.xor_frame.proofs.Lengths.{length_none, length_some}
 use Rattle.dispenser_frame_rules.specs.Table.{known, command_fields}
 use Rattle.pretend_rules.specs.Wire.{code_byte}
-use borrow.Author.Rules.{rules}
 use Rattle.pretend.proofs.wire.code_byte.Goals as goal
 
 pub returns-then-n-eq0 : goal.returns-then-n-eq0

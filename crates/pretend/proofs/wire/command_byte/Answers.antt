@@ -3,7 +3,6 @@ use Prim.Native.Nat.{◌+◌}
 use borrow.Author.Tests.{lt-ltb, le-ltb}
 use native.Mathlib.Omega.{arith}
 use Rattle.pretend_rules.specs.Wire.{command_byte}
-use borrow.Author.Rules.{rules}
 use Rattle.pretend.proofs.wire.command_byte.Goals as goal
 
 pub returns-then-n-was : goal.returns-then-n-was

@@ -1,7 +1,6 @@
 -- `pretend::wire::expired` meets its contract, stand by stand. Assumes nothing.
 use mathlib.Core.Path.{sym, ap, ◌∙◌}
 use Rattle.pretend_rules.specs.Wire.{expired_in, expired}
-use borrow.Author.Rules.{rules}
 use Rattle.pretend.proofs.wire.expired.Goals as goal
 
 pub returns-in-Idle : goal.returns-in-Idle

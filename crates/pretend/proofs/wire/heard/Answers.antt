@@ -1,7 +1,6 @@
 -- `pretend::wire::heard` meets its contract, stand by stand. Assumes nothing.
 use mathlib.Core.Path.{sym, ap, ◌∙◌}
 use Rattle.pretend_rules.specs.Wire.{heard_in, heard}
-use borrow.Author.Rules.{rules}
 use Rattle.pretend.proofs.wire.heard.Goals as goal
 
 pub returns-in-Idle : goal.returns-in-Idle

@@ -1,7 +1,6 @@
 -- `pretend::wire::idle_byte` meets its contract. Assumes nothing.
 use borrow.Author.Tests.{eq-eqb, ne_eqb}
 use Rattle.pretend_rules.specs.Wire.{idle_byte}
-use borrow.Author.Rules.{rules}
 use Rattle.pretend.proofs.wire.idle_byte.Goals as goal
 
 pub returns-then-b-eq4 : goal.returns-then-b-eq4

@@ -1,7 +1,6 @@
 -- `pretend::wire::last_byte` meets its contract. Assumes nothing.
 use borrow.Author.Tests.{eq-eqb, ne_eqb}
 use Rattle.pretend_rules.specs.Wire.{last_byte}
-use borrow.Author.Rules.{rules}
 use Rattle.pretend.proofs.wire.last_byte.Goals as goal
 
 pub returns-then-was-eq-CODE : goal.returns-then-was-eq-CODE

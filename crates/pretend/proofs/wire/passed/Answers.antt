@@ -1,7 +1,6 @@
 -- `pretend::wire::passed` meets its contract. Assumes nothing.
 use borrow.Author.Tests.{lt-ltb, le-ltb}
 use Rattle.pretend_rules.specs.Wire.{passed}
-use borrow.Author.Rules.{rules}
 use Rattle.pretend.proofs.wire.passed.Goals as goal
 
 pub returns-then-ms-was : goal.returns-then-ms-was

@@ -1,6 +1,5 @@
 -- `spelling::lines::first` is safe and ends: one sentence fewer is left at each turn. Assumes nothing.
 use Prim.Native.Nat.{◌-◌}
-use borrow.Author.Rules.{rules}
 use Rattle.spelling.proofs.lines.first.Goals as goal
 
 pub loop-sentence-init : goal.loop-sentence-init

@@ -1,7 +1,5 @@
 -- `spelling::records::place_of` is safe and ends: one code fewer is left at each turn. Assumes nothing.
 use Prim.Native.Nat.{◌-◌}
-use lib.ListN.{length}
-use borrow.Author.Rules.{rules}
 use Rattle.spelling.proofs.records.place_of.Goals as goal
 
 pub loop-i-init : goal.loop-i-init

@@ -1,7 +1,6 @@
 -- `spelling::records::place_of` is safe and ends: one code fewer is left at each turn. Assumes nothing.
 use Prim.Native.Nat.{◌-◌}
 use lib.ListN.{length}
-use borrow.Author.Rules.{rules}
 use Rattle.spelling.proofs.records.place_of.Given as goal
 
 abbrev pub invariant-loop-i : goal.invariant-loop-i

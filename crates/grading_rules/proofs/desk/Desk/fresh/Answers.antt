@@ -1,6 +1,5 @@
 -- `grading_rules::desk::Desk::fresh` meets its contract. Assumes nothing.
 use Rattle.grading_rules.specs.Replay.{fresh_desk}
-use borrow.Author.Rules.{rules}
 use Rattle.grading_rules.proofs.desk.Desk.fresh.Goals as goal
 
 pub returns : goal.returns

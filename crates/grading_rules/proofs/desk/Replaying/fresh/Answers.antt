@@ -1,6 +1,5 @@
 -- `grading_rules::desk::Replaying::fresh` meets its contract. Assumes nothing.
 use Rattle.grading_rules.specs.Feeding.{fresh_replay}
-use borrow.Author.Rules.{rules}
 use Rattle.grading_rules.proofs.desk.Replaying.fresh.Goals as goal
 
 pub returns : goal.returns

@@ -1,6 +1,5 @@
 -- `pretend_rules::device::Device::fresh` meets its contract. Assumes nothing.
 use Rattle.pretend_rules.specs.Device.{fresh_device}
-use borrow.Author.Rules.{rules}
 use Rattle.pretend_rules.proofs.device.Device.fresh.Goals as goal
 
 pub returns : goal.returns
