@@ -1,22 +1,19 @@
 -- What entering a record leaves, by what was found: the recording full, the record refused by the writer, or its bytes laid. Assumes nothing.
-use Prim.Native.Nat.{ℕ, ◌+◌, ◌≤◌, ◌<◌}
-use mathlib.Core.Path.{◌≡◌, refl, sym, ap, ap₂, ◌∙◌}
+use Prim.Native.Nat.{ℕ, ◌<◌}
+use mathlib.Core.Path.{◌≡◌, refl, sym, ap, ◌∙◌}
 use mathlib.Core.Bool.{true, false}
-use mathlib.Core.List.{List, [], ◌∷◌}
+use mathlib.Core.List.{List}
 use mathlib.Core.Logic.{inl, inr}
 use native.Mathlib.Omega.{arith}
 use lib.ListN.{length}
-use denote.Enum.Declared.{tag_of}
-use package.types.Run.{OneOf, miss}
 use Rattle.refusals.specs.Rules.{under}
 use Rattle.refusals.specs.Put.{Written, written}
 use Rattle.refusals.specs.declared.Put.{Put}
-use Rattle.refusals.proofs.Rules.{holds-true, fails-false, by_cases, certain, cond-true, cond-false}
+use Rattle.refusals.proofs.Rules.{holds-true, by_cases, certain, cond-true, cond-false}
 use Rattle.recording.specs.Record.{most_bytes, record_bytes}
 use Rattle.recording.specs.declared.Record.{Record}
 use Rattle.recording.specs.declared.Place.{Place}
 use Rattle.recording.specs.declared.Place.TheVariants.{Kind, Code, Upper, Lower, FromDispenser, Milliseconds, FromValidator, ToValidator, Broken}
-use Rattle.recording.specs.contracts.Place.{the_type as the-place}
 use Rattle.record_writer.specs.Writing.{write_record}
 use Rattle.grading_rules.specs.declared.desk.Desk.{Desk}
 use Rattle.live_rules.specs.Live.{Living, lived, lived_by}
@@ -24,7 +21,6 @@ use Rattle.live_rules.specs.Entering.{is_full, Noted, noted, as_entry, noted_by,
 use Rattle.live_rules.specs.declared.desk.Lived.{Lived}
 use Rattle.live_rules.specs.declared.entry.Entry.{Entry}
 use Rattle.live_rules.specs.declared.entry.Entry.TheVariants.{Bytes, Refused, Full}
-use Rattle.live_rules.specs.contracts.entry.Entry.{the_type as the-entry}
 
 -- ---- the bytes
 
@@ -66,19 +62,19 @@ module _ (d : Desk) (m : ℕ) (x : Record) (o r q : List ℕ) (y : Entry) (o' : 
       → entered (record { entry = y; lived = v }) o' r' q' ≡ entered_by d m x o r q
   was-entered v n r' q' e k = leaves v r' q' (k ∙ sym (ap (λ (z : Entry). lived_as z d x r q) e))
 
-  stays : (z : Entry) → OneOf (1 ∷ 2 ∷ []) (tag_of the-entry z) → idle d r q ≡ lived_as z d x r q
-  stays (Bytes n) i = absurd (miss (1 ∷ 2 ∷ []) 0 tt i)
+  stays : (z : Entry) → ((n : ℕ) → z ≡ Bytes n → ⊥) → idle d r q ≡ lived_as z d x r q
+  stays (Bytes n) i = absurd (i n refl)
   stays (Refused why) i = refl
   stays Full i = refl
 
-  pub was-kept : OneOf (1 ∷ 2 ∷ []) (tag_of the-entry y) → (v : Lived) → lived v r q ≡ idle d r q → entered (record { entry = y; lived = v }) o' r q ≡ entered_by d m x o r q
+  pub was-kept : ((n : ℕ) → y ≡ Bytes n → ⊥) → (v : Lived) → lived v r q ≡ idle d r q → entered (record { entry = y; lived = v }) o' r q ≡ entered_by d m x o r q
   was-kept i v k = leaves v r q (k ∙ stays y i)
 
 -- ---- a recording that is taken up again
 
 -- where no kind is due, the whole records end before the record that is begun
-pub begun-whole : (p : Place) → OneOf (1 ∷ 2 ∷ 3 ∷ 4 ∷ 5 ∷ 6 ∷ 7 ∷ 8 ∷ []) (tag_of the-place p) → (start fed : ℕ) → start ≡ whole_in p start fed
-begun-whole Kind h start fed = absurd (miss (1 ∷ 2 ∷ 3 ∷ 4 ∷ 5 ∷ 6 ∷ 7 ∷ 8 ∷ []) 0 tt h)
+pub begun-whole : (p : Place) → (p ≡ Kind → ⊥) → (start fed : ℕ) → start ≡ whole_in p start fed
+begun-whole Kind h start fed = absurd (h refl)
 begun-whole Code h start fed = refl
 begun-whole Upper h start fed = refl
 begun-whole Lower h start fed = refl

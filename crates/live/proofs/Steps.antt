@@ -1,11 +1,9 @@
 -- A record given to both sessions, untouched where it is not for one of them, is a record given as replay gives it. Assumes nothing.
 use Prim.Native.Nat.{ℕ, ◌+◌}
-use mathlib.Core.Path.{◌≡◌, refl, sym, ap, ap₂, ◌∙◌}
+use mathlib.Core.Path.{◌≡◌, refl, ap, ap₂, ◌∙◌}
 use mathlib.Core.Bool.{Bool, true, false, cond, ◌||◌}
-use mathlib.Core.List.{List, [], ◌∷◌}
+use mathlib.Core.List.{List, []}
 use lib.ListN.{length}
-use denote.Enum.Declared.{tag_of}
-use package.types.Run.{OneOf, miss}
 use Rattle.refusals.specs.declared.Declined.TheVariants.{Open}
 use Rattle.exchange_rules.specs.Exchange.{doubted}
 use Rattle.exchange_rules.specs.Limits.{least_room}
@@ -26,9 +24,8 @@ use Rattle.recording.specs.declared.Record.{Record}
 use Rattle.recording.specs.declared.Record.TheVariants.{Request, DispenserByte, Tick, ValidatorByte, Command, Clear}
 use Rattle.grading_rules.specs.Replay.{lent_room, lent_room255, payer_declines, taker_declines, counting, by_both, given}
 use Rattle.grading_rules.specs.declared.desk.Desk.{Desk}
-use Rattle.recording.specs.contracts.Record.{the_type as the-record}
-use Rattle.live_rules.specs.Live.{untouched, taker_untouched, to_payer, to_taker, Living, lived, lived_by}
-use Rattle.live.proofs.Rooms.{outcome, session-request, session-byte, session-tick, taker_outcome, taker-request, taker-byte, taker-tick}
+use Rattle.live_rules.specs.Live.{untouched, taker_untouched, to_payer, to_taker, lived, lived_by}
+use Rattle.live.proofs.Rooms.{outcome, session-request, session-byte, session-tick, taker-request, taker-byte, taker-tick}
 
 or-false : (t : Bool) → (t || false) ≡ t
 or-false true = refl
@@ -81,18 +78,20 @@ module _ (d : Desk) where
 
 -- ---- a session that the record is not for
 
-pub payer-untouched : (x : Record) → OneOf (3 ∷ 4 ∷ []) (tag_of the-record x) → (s : Session) (r : List ℕ) → untouched s r ≡ to_payer s x r
-payer-untouched (Request code upper lower) h s r = absurd (miss (3 ∷ 4 ∷ []) 0 tt h)
-payer-untouched (DispenserByte b) h s r = absurd (miss (3 ∷ 4 ∷ []) 1 tt h)
-payer-untouched (Tick ms) h s r = absurd (miss (3 ∷ 4 ∷ []) 2 tt h)
-payer-untouched (ValidatorByte b) h s r = refl
-payer-untouched (Command code) h s r = refl
-payer-untouched Clear h s r = absurd (miss (3 ∷ 4 ∷ []) 5 tt h)
+pub payer-untouched : (x : Record) → ((code upper lower : ℕ) → x ≡ Request code upper lower → ⊥) → ((b : ℕ) → x ≡ DispenserByte b → ⊥) → ((ms : ℕ) → x ≡ Tick ms → ⊥) → (x ≡ Clear → ⊥)
+    → (s : Session) (r : List ℕ) → untouched s r ≡ to_payer s x r
+payer-untouched (Request code upper lower) q d k c s r = absurd (q code upper lower refl)
+payer-untouched (DispenserByte b) q d k c s r = absurd (d b refl)
+payer-untouched (Tick ms) q d k c s r = absurd (k ms refl)
+payer-untouched (ValidatorByte b) q d k c s r = refl
+payer-untouched (Command code) q d k c s r = refl
+payer-untouched Clear q d k c s r = absurd (c refl)
 
-pub taker-untouched : (x : Record) → OneOf (0 ∷ 1 ∷ 5 ∷ []) (tag_of the-record x) → (s : Taker) (r : List ℕ) → taker_untouched s r ≡ to_taker s x r
-taker-untouched (Request code upper lower) h s r = refl
-taker-untouched (DispenserByte b) h s r = refl
-taker-untouched (Tick ms) h s r = absurd (miss (0 ∷ 1 ∷ 5 ∷ []) 2 tt h)
-taker-untouched (ValidatorByte b) h s r = absurd (miss (0 ∷ 1 ∷ 5 ∷ []) 3 tt h)
-taker-untouched (Command code) h s r = absurd (miss (0 ∷ 1 ∷ 5 ∷ []) 4 tt h)
-taker-untouched Clear h s r = refl
+pub taker-untouched : (x : Record) → ((b : ℕ) → x ≡ ValidatorByte b → ⊥) → ((ms : ℕ) → x ≡ Tick ms → ⊥) → ((code : ℕ) → x ≡ Command code → ⊥)
+    → (s : Taker) (r : List ℕ) → taker_untouched s r ≡ to_taker s x r
+taker-untouched (Request code upper lower) v k c s r = refl
+taker-untouched (DispenserByte b) v k c s r = refl
+taker-untouched (Tick ms) v k c s r = absurd (k ms refl)
+taker-untouched (ValidatorByte b) v k c s r = absurd (v b refl)
+taker-untouched (Command code) v k c s r = absurd (c code refl)
+taker-untouched Clear v k c s r = refl

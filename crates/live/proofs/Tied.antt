@@ -1,8 +1,5 @@
 -- No contract of this crate leaves a choice: two outcomes that it allows for the same arguments coincide, in the result and in every byte of a lent room. Said of the contracts themselves, since
 -- each is one equation. Assumes nothing.
-use mathlib.Core.Path.{ap}
-use mathlib.Core.List.{List}
-use Prim.Native.Nat.{ℕ}
 use Rattle.refusals.proofs.Tied.{Tied, tied}
 use Rattle.live_rules.specs.Live.{Living, lived}
 use Rattle.live_rules.specs.Entering.{Entering, entered}

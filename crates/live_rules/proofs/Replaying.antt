@@ -2,15 +2,15 @@
 use Prim.Native.Nat.{ℕ, zero, suc, ◌+◌, ◌/◌, ◌%◌, ◌≤◌, ◌<◌}
 use mathlib.Core.Path.{◌≡◌, refl, sym, ap, ap₂, ◌∙◌, subst}
 use mathlib.Core.List.{List, [], ◌∷◌, ◌++◌, append_assoc, append-nil}
-use mathlib.Core.Logic.{inl, inr, ⊎_elim, ◌↔◌}
+use mathlib.Core.Logic.{inl, ⊎_elim, ◌↔◌}
 use native.Mathlib.Nat.{le_refl, zero-add}
 use native.Mathlib.Omega.{arith}
-use lib.ListN.{length, take, drop, get_or, length-append, drop_of_length-le}
+use lib.ListN.{length, take, drop, length-append, drop_of_length-le}
 use lib.Seq.{take-append-le, take_all}
 use types.Run.{miss}
 use Rattle.refusals.specs.Numbers.{too_long}
 use Rattle.refusals.specs.Rules.{under, at_most}
-use Rattle.refusals.specs.Put.{written, over}
+use Rattle.refusals.specs.Put.{written}
 use Rattle.refusals.specs.declared.Put.{Put}
 use Rattle.refusals.specs.declared.Put.TheVariants.{Bytes as Laid, Refused as NotLaid}
 use Rattle.refusals.specs.declared.Refusal.TheVariants.{Room, Range}
@@ -34,7 +34,7 @@ use Rattle.recording.proofs.Back.{length-record}
 use Rattle.recording.proofs.Exact.{taken-at-once}
 use Rattle.recording.proofs.Folds.{taken-before}
 use Rattle.recording.proofs.Limit.{past-faulty}
-use Rattle.recording.proofs.Pieces.{Comes, due-in-piece}
+use Rattle.recording.proofs.Pieces.{due-in-piece}
 use Rattle.recording.proofs.Places.{within, Inside}
 use Rattle.recording.proofs.Starts.{Held, begun, complete, faulty, held-byte, held-kind}
 use Rattle.recording.proofs.Trips.{laid_more, laid_none}

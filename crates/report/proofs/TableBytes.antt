@@ -1,22 +1,22 @@
 -- The bill table that a history gives is of bytes, since the bytes accepted are. Assumes nothing.
-use Prim.Native.Nat.{ℕ, zero, suc, ◌+◌, ◌-◌, ◌*◌, ◌≤◌, ◌<◌}
-use mathlib.Core.Path.{◌≡◌, refl, sym, ap, ◌∙◌, subst}
+use Prim.Native.Nat.{ℕ, zero, suc, ◌+◌, ◌-◌, ◌*◌, ◌<◌}
+use mathlib.Core.Path.{sym, subst}
 use mathlib.Core.Bool.{Bool, true, false, cond}
-use mathlib.Core.List.{List, [], ◌∷◌, ◌++◌, append-nil}
+use mathlib.Core.List.{List, [], ◌∷◌, ◌++◌}
 use native.Mathlib.Omega.{arith}
 use lib.Dec.{eqb, lit<}
-use lib.ListN.{length, get_or, take, drop, replicate, length-take, get_or-eq_default}
+use lib.ListN.{length, take, drop, replicate, length-take, get_or-eq_default}
 use lib.Seq.{get_or-take, get_or-drop}
 use Rattle.refusals.specs.Rules.{under, within}
 use Rattle.refusals.proofs.Rules.{by_cases, pick}
 use Rattle.numbers.specs.Promises.{AllBytes}
 use Rattle.bill_table.specs.Table.{no_word, first_word, word_at}
 use Rattle.bill_table.specs.declared.Word.{Word}
-use Rattle.ledger.specs.Events.{Deed, asks, hears, waits, own, Left, goes_on, closes, declined, done, is_frame, since}
+use Rattle.ledger.specs.Events.{Deed, asks, hears, waits, own, goes_on, closes, declined, done, is_frame, since}
 use Rattle.ledger.specs.Calls.{Returned, gave, did, told, history_from}
 use Rattle.validator_rules.specs.Session.{fresh_session, session_request, session_byte, session_tick}
 use Rattle.validator_rules.specs.Calls.{Call, request, byte, tick, Request, Own, Ending, acknowledged, not_acknowledged, illegal_command, answered, damaged, silent, Known, Past, returned, ending, host, history}
-use Rattle.validator_rules.specs.History.{last_code, from_start, between, body_by, body_once, answer_to, table_by}
+use Rattle.validator_rules.specs.History.{last_code, from_start, between, body_by, answer_to, table_by}
 use Rattle.validator_rules.specs.declared.session.Closing.{Closing}
 use Rattle.validator_rules.specs.declared.session.Session.{Session}
 use Rattle.validator_rules.proofs.Past.{bytes-more}
@@ -78,9 +78,9 @@ told-small d a (did n c) room h k = (a, k)
 small-from : (s : Session) (h : Past) (cs : List Call) → Small h → Small (history_from host s h cs)
 unfolding history_from
 small-from s h [] k = k
-small-from s h (request code given r ∷ cs) k = small-from _ _ cs (told-small (asks (record { code = code; given = given })) tt (returned (session_request s code given r).reply) (session_request s code given r).room h k)
-small-from s h (byte b small r ∷ cs) k = small-from _ _ cs (told-small (hears b) small (returned (session_byte s b r).reply) (session_byte s b r).room h k)
-small-from s h (tick ms r ∷ cs) k = small-from _ _ cs (told-small (waits ms) tt (returned (session_tick s ms r).reply) (session_tick s ms r).room h k)
+small-from s h (request code given r ∷ cs) k = small-from (session_request s code given r).session _ cs (told-small (asks (record { code = code; given = given })) tt (returned (session_request s code given r).reply) (session_request s code given r).room h k)
+small-from s h (byte b small r ∷ cs) k = small-from (session_byte s b r).session _ cs (told-small (hears b) small (returned (session_byte s b r).reply) (session_byte s b r).room h k)
+small-from s h (tick ms r ∷ cs) k = small-from (session_tick s ms r).session _ cs (told-small (waits ms) tt (returned (session_tick s ms r).reply) (session_tick s ms r).room h k)
 
 -- of nothing and bytes
 either : (t : Bool) (s : List ℕ) → AllBytes s → AllBytes (cond t [] s)

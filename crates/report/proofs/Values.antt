@@ -1,7 +1,6 @@
 -- How long the line of a total is: its whole number has at most eighteen digits, and its decimals one. Assumes nothing.
-use Prim.Native.Nat.{ℕ, ◌+◌, ◌-◌, ◌*◌, ◌^◌, ◌≤◌, ◌<◌}
+use Prim.Native.Nat.{ℕ, ◌-◌, ◌*◌, ◌^◌, ◌≤◌, ◌<◌}
 use mathlib.Core.Path.{◌≡◌, refl, ap}
-use mathlib.Core.List.{List, [], ◌∷◌, ◌++◌}
 use native.Mathlib.Omega.{arith}
 use lib.ListN.{length, length-append}
 use Rattle.refusals.specs.Rules.{under}
@@ -14,7 +13,7 @@ use Rattle.bill_table.specs.declared.Value.{Value}
 use Rattle.bill_table.specs.declared.Total.TheVariants.{Sum}
 use Rattle.bill_table.proofs.Exact.{totals-exact, total-exactly}
 use Rattle.report_lines.specs.Lines.{line}
-use Rattle.report.specs.Report.{spaced, value_text}
+use Rattle.report.specs.Report.{value_text}
 
 pub eighteen : (n : ℕ) → n ≤ 255_000_000_000_000_000 → length (decimal n) ≤ 18
 eighteen n h = omega (arith, length-decimal n, width-least n 18 (omega arith) (omega arith))

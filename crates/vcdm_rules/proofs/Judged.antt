@@ -18,11 +18,11 @@ use Rattle.vcdm_frame_rules.specs.declared.answer.Answer.TheVariants.{Reset, Sta
 use Rattle.vcdm_frame_rules.specs.declared.answer.AnswerRead.{AnswerRead}
 use Rattle.vcdm_frame_rules.specs.declared.answer.AnswerRead.TheVariants.{Read, Refused as NotRead}
 use Rattle.vcdm_frame_rules.proofs.Trips.{answer-passed, read-code}
-use Rattle.ledger.specs.Told.{Verdict, bad, good, void}
+use Rattle.ledger.specs.Told.{bad, void}
 use Rattle.vcdm_rules.specs.Account.{account_answered}
 use Rattle.vcdm_rules.specs.Session.{more_quiet, dispense_found, found_by, finding}
 use Rattle.vcdm_rules.specs.Calls.{Request}
-use Rattle.vcdm_rules.specs.Unit.{plain_finding, verdict, unit}
+use Rattle.vcdm_rules.specs.Unit.{plain_finding, verdict}
 use Rattle.vcdm_rules.specs.Promises.{Repeats, Judged, AltersNone, Quiets}
 use Rattle.vcdm_rules.specs.declared.account.Account.{Account}
 use Rattle.vcdm_rules.specs.declared.session.Finding.{Finding}

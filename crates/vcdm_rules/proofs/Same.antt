@@ -1,5 +1,5 @@
 -- The session of the four-cassette unit is the shared session over its unit, its serial apart: each call, as it stands in the contracts, is that call. Assumes nothing.
-use Prim.Native.Nat.{ℕ, ◌+◌, ◌≤◌}
+use Prim.Native.Nat.{ℕ, ◌≤◌}
 use mathlib.Core.Path.{◌≡◌, refl, sym, ap, ◌∙◌, subst}
 use mathlib.Core.Bool.{Bool, true, false, cond, and-true, and-false}
 use mathlib.Core.List.{List, [], ◌∷◌}
@@ -38,7 +38,6 @@ use Rattle.vcdm_rules.specs.declared.session.Closing.{Closing}
 use Rattle.vcdm_rules.specs.declared.session.Closing.TheVariants.{Nothing, Answered, Refused, Unknown}
 use Rattle.vcdm_rules.specs.declared.session.Reply.{Reply}
 use Rattle.vcdm_rules.specs.declared.session.Reply.TheVariants.{NotDone, Done}
-use Rattle.vcdm_rules.specs.declared.session.Session.{Session}
 
 -- ---- what the shared session has of it
 

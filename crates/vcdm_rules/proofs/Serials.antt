@@ -1,14 +1,13 @@
 -- The serial in every frame is the one that the history gives; and the only 04h that we send is the one that opens a command. Assumes nothing.
 use Prim.Native.Nat.{ℕ}
 use mathlib.Core.Path.{◌≡◌, refl, sym, ap, ◌∙◌, subst}
-use mathlib.Core.Bool.{Bool, true, false, cond}
 use mathlib.Core.List.{List, [], ◌∷◌}
 use mathlib.Core.Logic.{◌⊎◌, inl, inr, ⊎_elim}
 use Rattle.ledger.specs.Events.{Left, asks, hears, waits, own, declined, done, History, bytes}
 use Rattle.ledger.specs.Account.{Ending, Command, followed, commands}
 use Rattle.ledger.specs.Calls.{told, seen, run, history_from}
-use Rattle.ledger.specs.Sent.{Again, Sends, Rightly}
-use Rattle.vcdm_rules.specs.Session.{following, pays, serial_for, serial_after}
+use Rattle.ledger.specs.Sent.{Again, Rightly}
+use Rattle.vcdm_rules.specs.Session.{following, serial_after}
 use Rattle.vcdm_rules.specs.Calls.{Call, request, byte, tick, Request, Own, Counted, fresh_counted, counted_by, called_counted, deed, returned, ending, host, history, next_serial}
 use Rattle.vcdm_rules.specs.Unit.{vcdm, layout}
 use Rattle.vcdm_rules.specs.History.{Numbered, Plainly, PutPlainly, SerialsByHistory, OnlyOpening}

@@ -2,7 +2,7 @@
 use Prim.Native.Nat.{ℕ, ◌+◌, ◌-◌, ◌≤◌, ◌<◌}
 use mathlib.Core.Path.{◌≡◌, refl, sym, ap, ap₂, ◌∙◌, subst}
 use mathlib.Core.Bool.{Bool, true, false}
-use mathlib.Core.List.{List, []}
+use mathlib.Core.List.{List}
 use native.Mathlib.Omega.{arith}
 use lib.Dec.{eqb, lit≤}
 use lib.ListN.{length, get_or}
@@ -26,7 +26,7 @@ use Rattle.exchange_rules.specs.Sums.{sums_opened, sums_answered, sums_refused, 
 use Rattle.exchange_rules.specs.Owed.{Lawful}
 use Rattle.exchange_rules.specs.declared.notes.Sums.{Sums}
 use Rattle.exchange_rules.proofs.Shown.{left-answered}
-use Rattle.ledger.specs.Told.{Verdict, good}
+use Rattle.ledger.specs.Told.{good}
 use Rattle.vcdm_rules.specs.Account.{fresh_account, account_opened, account_refused, account_unknown, account_paid, account_answered}
 use Rattle.vcdm_rules.specs.Session.{hand_over, bytes_put, found_by, finding, pays}
 use Rattle.vcdm_rules.specs.Calls.{Request}

@@ -1,5 +1,4 @@
 -- `grading_step::booked` meets its contract. Assumes nothing.
-use borrow.Author.Rules.{rules}
 use Rattle.grading_step.proofs.booked.Goals as goal
 
 pub returns-in-Asked : goal.returns-in-Asked

@@ -2,7 +2,6 @@
 use Rattle.dispenser_rules.specs.Session.{session_clear}
 use Rattle.validator_rules.specs.Bills.{booked_by}
 use Rattle.grading_step.specs.Scaffolding.{entered}
-use borrow.Author.Rules.{rules}
 use Rattle.grading_step.proofs.cleared.Goals as goal
 
 pub returns : goal.returns

@@ -3,7 +3,6 @@ use Rattle.validator_rules.specs.Session.{session_request}
 use Rattle.validator_rules.specs.Bills.{booked_by}
 use Rattle.grading_step.specs.Scaffolding.{joined, entered}
 use Rattle.grading_step.proofs.Steps.{by-request}
-use borrow.Author.Rules.{rules}
 use Rattle.grading_step.proofs.commanded.Goals as goal
 
 pub returns : goal.returns

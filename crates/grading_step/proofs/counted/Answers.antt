@@ -1,5 +1,4 @@
 -- `grading_step::counted` meets its contract. Assumes nothing.
-use borrow.Author.Rules.{rules}
 use Rattle.grading_step.proofs.counted.Goals as goal
 
 pub returns-then-declined : goal.returns-then-declined

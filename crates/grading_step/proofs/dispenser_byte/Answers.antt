@@ -4,7 +4,6 @@ use Rattle.validator_rules.specs.Bills.{booked_by}
 use Rattle.grading_step.specs.Scaffolding.{joined}
 use Rattle.grading_step.proofs.Steps.{by-heard, entered-heard}
 use Rattle.grading_step.proofs.Again.{byte-heard}
-use borrow.Author.Rules.{rules}
 use Rattle.grading_step.proofs.dispenser_byte.Goals as goal
 
 pub heard-entry-requires : goal.heard-entry-requires

@@ -1,10 +1,8 @@
 -- `grading_step::heard` meets its contract: where nothing closed and no frame was put, the books stay as they are; where something is booked, no more is read of the bytes put than
 -- whether they are more than one. Assumes nothing.
-use Prim.Native.Nat.{◌≤◌}
 use mathlib.Core.Path.{subst}
 use borrow.Author.Tests.{lt-ltb, le-ltb}
 use Rattle.grading_step.specs.Scaffolding.{ShortBy, Short, entered}
-use borrow.Author.Rules.{rules}
 use Rattle.grading_step.proofs.heard.Goals as goal
 
 pub returns-then-put-gt1 : goal.returns-then-put-gt1

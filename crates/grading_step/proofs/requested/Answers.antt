@@ -2,7 +2,6 @@
 use Rattle.dispenser_rules.specs.Session.{session_request, account_asked}
 use Rattle.validator_rules.specs.Bills.{booked_by}
 use Rattle.grading_step.specs.Scaffolding.{entered}
-use borrow.Author.Rules.{rules}
 use Rattle.grading_step.proofs.requested.Goals as goal
 
 pub returns : goal.returns

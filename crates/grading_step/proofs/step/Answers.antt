@@ -1,5 +1,4 @@
 -- `grading_step::step` meets its contract, kind by kind. Assumes nothing.
-use borrow.Author.Rules.{rules}
 use Rattle.grading_step.proofs.step.Goals as goal
 
 pub returns-in-Request : goal.returns-in-Request

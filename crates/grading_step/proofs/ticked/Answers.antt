@@ -4,7 +4,6 @@ use Rattle.validator_rules.specs.Session.{session_tick as taker_tick}
 use Rattle.grading_step.specs.Scaffolding.{joined}
 use Rattle.grading_step.proofs.Steps.{by-tick, entered-heard}
 use Rattle.grading_step.proofs.Again.{tick-heard}
-use borrow.Author.Rules.{rules}
 use native.Mathlib.Omega.{arith}
 use Rattle.grading_step.proofs.ticked.Goals as goal
 

@@ -2,7 +2,6 @@
 use Rattle.validator_rules.specs.Session.{session_byte}
 use Rattle.grading_step.specs.Scaffolding.{joined, entered}
 use Rattle.grading_step.proofs.Steps.{by_byte}
-use borrow.Author.Rules.{rules}
 use Rattle.grading_step.proofs.validator_byte.Goals as goal
 
 pub returns : goal.returns

@@ -1,5 +1,4 @@
 -- `grading_step::written` meets its contract. Assumes nothing.
-use borrow.Author.Rules.{rules}
 use Rattle.grading_step.proofs.written.Goals as goal
 
 pub returns-in-Nothing : goal.returns-in-Nothing

@@ -1,11 +1,7 @@
 -- `report::lay` meets its contract. The invariant: i bytes are laid, and the rest of the room is as it was. Assumes nothing.
-use mathlib.Core.Path.{◌≡◌, refl}
+use mathlib.Core.Path.{◌≡◌}
 use Prim.Native.Nat.{◌-◌, ◌≤◌}
-use lib.ListN.{length, take, drop, length-set}
-use Rattle.refusals.proofs.Writing.{writing-refused, writing-laid}
-use Rattle.report.proofs.Laying.{lay-byte, lay-rest, lay-all}
-use borrow.Author.Rules.{rules}
-use native.Mathlib.Omega.{arith}
+use lib.ListN.{length, take, drop}
 use Rattle.report.proofs.lay.Given as goal
 
 abbrev pub invariant-loop-i : goal.invariant-loop-i

@@ -1,6 +1,5 @@
 -- `report::put_bad` meets its contract. Assumes nothing.
 use Rattle.report_lines.proofs.Lines.{line-added}
-use borrow.Author.Rules.{rules}
 use native.Mathlib.Omega.{arith}
 use Rattle.report.proofs.put_bad.Goals as goal
 

@@ -1,7 +1,6 @@
 -- `report::put_cassettes` meets its contract. Assumes nothing.
 use Rattle.report_lines.proofs.Lines.{first-added, one-added}
 use native.Mathlib.Omega.{arith}
-use borrow.Author.Rules.{rules}
 use Rattle.report.proofs.put_cassettes.Goals as goal
 
 pub returns : goal.returns

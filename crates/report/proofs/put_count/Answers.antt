@@ -3,7 +3,6 @@ use lib.ListN.{length-append}
 use Rattle.numbers.specs.Decimal.{decimal}
 use Rattle.report_lines.specs.Text.{bytes_of}
 use Rattle.report.proofs.Types.{two, count-added}
-use borrow.Author.Rules.{rules}
 use native.Mathlib.Omega.{arith}
 use Rattle.report.proofs.put_count.Goals as goal
 

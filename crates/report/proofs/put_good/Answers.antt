@@ -1,7 +1,6 @@
 -- `report::put_good` meets its contract. Assumes nothing.
 use Rattle.report_lines.proofs.Lines.{lines-added, first-added, one-added}
 use native.Mathlib.Omega.{arith}
-use borrow.Author.Rules.{rules}
 use Rattle.report.proofs.put_good.Goals as goal
 
 pub returns : goal.returns

@@ -1,7 +1,6 @@
 -- `report::put_report` meets its contract. Assumes nothing.
 use Rattle.report.specs.Report.{report_text}
 use Rattle.report_lines.proofs.Lines.{one-added}
-use borrow.Author.Rules.{rules}
 use Rattle.report.proofs.put_report.Goals as goal
 
 pub returns-in-Good : goal.returns-in-Good

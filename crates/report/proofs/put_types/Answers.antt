@@ -1,17 +1,12 @@
 -- `report::put_types` meets its contract. The invariant: the lines of the first y types are added. Assumes nothing.
-use mathlib.Core.Path.{◌≡◌}
-use Prim.Native.Nat.{◌+◌, ◌*◌, ◌-◌, ◌≤◌}
-use lib.ListN.{length, take}
-use Rattle.report_lines.specs.Scaffolding.{Adds}
-use Rattle.report_lines.specs.Lines.{lines}
-use Rattle.report.specs.Report.{type_lines}
+use Prim.Native.Nat.{◌-◌}
 use Rattle.report.proofs.Types.{types-begin, types-next, types-all}
 use borrow.Author.Rules.{rules}
 use native.Mathlib.Omega.{arith}
 use Rattle.report.proofs.put_types.Goals as goal
 
 pub loop-y-init : goal.loop-y-init
-loop-y-init c = let args = c.args in (search rules, search rules, search rules, types-begin args.table.now args.text.now args.at args.t1)
+loop-y-init c = let args = c.args in (search rules, search rules, search rules, types-begin args.table.now args.text.now args.at args.bills)
 
 pub put_type-end-requires : goal.put_type-end-requires
 put_type-end-requires c =
@@ -26,7 +21,7 @@ loop-y-preserved c =
       search rules,
       turn.invariant.1,
       omega (arith, turn.invariant.2, w.upper_bound),
-      types-next args.table.now args.t1 turn.y _ (omega (arith, turn.invariant.1, c.loop-y-test.true)) turn.invariant.3
+      types-next args.table.now args.bills turn.y _ (omega (arith, turn.invariant.1, c.loop-y-test.true)) turn.invariant.3
           (rw c.word_at-word.ensures at w.adds),
     )
 
@@ -37,4 +32,4 @@ pub returns : goal.returns
 returns c =
     let end = c.loop-y in
     let args = c.args in
-    record { adds = types-all args.table.now args.t1 end.y (omega (arith, end.invariant.1, c.loop-y-test.false)) end.invariant.3; upper_bound = omega (arith, end.invariant.2) }
+    record { adds = types-all args.table.now args.bills end.y (omega (arith, end.invariant.1, c.loop-y-test.false)) end.invariant.3; upper_bound = omega (arith, end.invariant.2) }

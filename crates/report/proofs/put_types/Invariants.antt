@@ -5,9 +5,6 @@ use lib.ListN.{length, take}
 use Rattle.report_lines.specs.Scaffolding.{Adds}
 use Rattle.report_lines.specs.Lines.{lines}
 use Rattle.report.specs.Report.{type_lines}
-use Rattle.report.proofs.Types.{types-begin, types-next, types-all}
-use borrow.Author.Rules.{rules}
-use native.Mathlib.Omega.{arith}
 use Rattle.report.proofs.put_types.Given as goal
 
 abbrev pub invariant-loop-y : goal.invariant-loop-y

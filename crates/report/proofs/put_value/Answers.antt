@@ -6,7 +6,6 @@ use Rattle.report.specs.Report.{spaced}
 use Rattle.report_lines.proofs.Adding.{adds_then}
 use Rattle.report_lines.proofs.Lines.{line-added}
 use Rattle.report.proofs.Values.{eighteen, single}
-use borrow.Author.Rules.{rules}
 use native.Mathlib.Omega.{arith}
 use Rattle.report.proofs.put_value.Goals as goal
 
@@ -67,8 +66,10 @@ returns c =
     let b = c.put_digits-b.ensures in
     let d = c.put-c.ensures in
     let e = c.put_digits-d.ensures in
-    let f = c.put.ensures in record { adds = line-added (bytes_of "value ") (decimal v.whole ++ (spaced v.letters ++ decimal v.decimals)) a
-          (line-added (decimal v.whole) (spaced v.letters ++ decimal v.decimals) b (line-added (spaced v.letters) (decimal v.decimals) d (adds_then e f))); upper_bound = omega (
+    let f = c.put.ensures in record {
+      adds = line-added (bytes_of "value ") (decimal v.whole ++ (spaced v.letters ++ decimal v.decimals)) a
+          (line-added (decimal v.whole) (spaced v.letters ++ decimal v.decimals) b (line-added (spaced v.letters) (decimal v.decimals) d (adds_then e f)));
+      upper_bound = omega (
         arith,
         a.ends,
         b.ends,
@@ -77,4 +78,5 @@ returns c =
         f.ends,
         eighteen c.args.value.whole c.requires.whole_bound.0,
         single c.args.value.decimals c.requires.whole_bound.1,
-      ) }
+      );
+    }

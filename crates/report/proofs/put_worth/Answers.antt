@@ -1,11 +1,10 @@
 -- `report::put_worth` meets its contract. Assumes nothing.
-use mathlib.Core.Path.{◌≡◌, sym, ap, ◌∙◌}
+use mathlib.Core.Path.{sym, ap, ◌∙◌}
 use Prim.Native.Nat.{◌<◌}
 use Rattle.report.specs.Report.{value_line}
 use Rattle.report_lines.proofs.Lines.{one-added, nothing-added}
 use Rattle.report.proofs.Values.{total-fits}
 use borrow.Author.Rules.{rules}
-use native.Mathlib.Omega.{arith}
 use Rattle.report.proofs.put_worth.Goals as goal
 
 pub put_value-requires : goal.put_value-requires

@@ -2,7 +2,6 @@
 use mathlib.Core.Path.{ap, ◌∙◌}
 use Rattle.refusals.specs.Put.{writing}
 use Rattle.report.specs.Report.{report_text, report_of}
-use borrow.Author.Rules.{rules}
 use Rattle.report.proofs.report.Goals as goal
 
 pub returns : goal.returns

@@ -2,7 +2,6 @@
 use mathlib.Core.Path.{ap, ◌∙◌}
 use Rattle.refusals.specs.Put.{writing}
 use Rattle.report.proofs.Laying.{text-laid}
-use borrow.Author.Rules.{rules}
 use Rattle.report.proofs.write_report.Goals as goal
 
 pub returns : goal.returns

@@ -1,5 +1,4 @@
 -- `grading::desk::bad` meets its contract. Assumes nothing.
-use borrow.Author.Rules.{rules}
 use Rattle.grading.proofs.desk.bad.Goals as goal
 
 pub returns : goal.returns

@@ -1,6 +1,5 @@
 -- `grading::desk::broken` meets its contract. Assumes nothing.
 use Rattle.grading_rules.specs.Feeding.{broken_at}
-use borrow.Author.Rules.{rules}
 use Rattle.grading.proofs.desk.broken.Goals as goal
 
 pub returns : goal.returns

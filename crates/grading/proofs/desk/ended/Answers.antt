@@ -3,7 +3,6 @@ use mathlib.Core.Path.{sym, ◌∙◌}
 use native.Mathlib.Omega.{arith}
 use Rattle.grading_rules.specs.Feeding.{ended_replay}
 use Rattle.grading.proofs.Loops.{ended-start}
-use borrow.Author.Rules.{rules}
 use Rattle.grading.proofs.desk.ended.Goals as goal
 
 pub overflow_cast-at : goal.overflow_cast-at

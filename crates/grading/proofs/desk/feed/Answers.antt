@@ -2,7 +2,6 @@
 use mathlib.Core.Path.{◌∙◌}
 use native.Mathlib.Omega.{arith}
 use Rattle.grading.proofs.Loops.{empty-fed, unbroken, broken-fed}
-use borrow.Author.Rules.{rules}
 use Rattle.grading.proofs.desk.feed.Goals as goal
 
 pub returns-then-piece-eq0 : goal.returns-then-piece-eq0
@@ -10,7 +9,7 @@ returns-then-piece-eq0 c = empty-fed c.args.replay c.args.piece.now c.if-piece-e
 
 pub within-requires : goal.within-requires
 within-requires c =
-    record { counted = c.requires; unbroken = unbroken c.args.replay.reader.place c.in_default.keys2; piece_nonzero = omega (arith, c.if-piece-eq0.false) }
+    record { counted = c.requires; unbroken = unbroken c.args.replay.reader.place c.in_default.not-Broken; piece_nonzero = omega (arith, c.if-piece-eq0.false) }
 
 pub returns-in-Broken : goal.returns-in-Broken
 returns-in-Broken c =

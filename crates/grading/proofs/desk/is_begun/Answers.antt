@@ -1,7 +1,6 @@
 -- `grading::desk::is_begun` meets its contract. Assumes nothing.
 use Rattle.grading.proofs.Loops.{not-due}
-use borrow.Author.Rules.{rules}
 use Rattle.grading.proofs.desk.is_begun.Goals as goal
 
 pub returns-in_default : goal.returns-in_default
-returns-in_default c = not-due c.args.reader.place c.in_default.keys2
+returns-in_default c = not-due c.args.reader.place c.in_default.not-Kind

@@ -1,11 +1,8 @@
 -- `grading::desk::reader_after` meets its contract. The invariant: the reader goes on from i as from the start. Assumes nothing.
-use mathlib.Core.Path.{◌≡◌, refl, sym, ◌∙◌}
+use mathlib.Core.Path.{◌≡◌}
 use Prim.Native.Nat.{◌+◌, ◌-◌, ◌≤◌}
-use native.Mathlib.Omega.{arith}
 use lib.ListN.{length, drop}
 use Rattle.recording.specs.Reading.{reader_after}
-use Rattle.grading.proofs.Loops.{after_one, after-end}
-use borrow.Author.Rules.{rules}
 use Rattle.grading.proofs.desk.reader_after.Given as goal
 
 abbrev pub invariant-loop-i : goal.invariant-loop-i

@@ -3,7 +3,6 @@ use mathlib.Core.Path.{sym, subst}
 use Rattle.grading_rules.specs.Promises.{Counted}
 use Rattle.grading_rules.proofs.Cuts.{counted-fed, stays-counted}
 use Rattle.grading.proofs.Loops.{replays}
-use borrow.Author.Rules.{rules}
 use Rattle.grading.proofs.desk.replay.Goals as goal
 
 pub feed-requires : goal.feed-requires

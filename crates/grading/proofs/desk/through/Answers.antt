@@ -1,21 +1,17 @@
 -- `grading::desk::through` meets its contract. The invariant: what is left of the piece, fed to what the loop has, leaves what the whole piece leaves; there are no more records
 -- than bytes fed. Assumes nothing.
 use mathlib.Core.Path.{◌≡◌, sym, ap, ◌∙◌}
-use mathlib.Core.Logic.{⊎_elim}
-use mathlib.Core.Bool.{true, false, cond, true≢false}
-use Prim.Native.Nat.{◌+◌, ◌-◌, ◌≤◌}
-use lib.ListN.{length, drop}
-use Rattle.recording.specs.Reading.{fresh_reader}
-use Rattle.recording.specs.Taking.{glances_in}
+use mathlib.Core.Bool.{true, false, true≢false}
+use Prim.Native.Nat.{◌-◌}
 use Rattle.recording.specs.declared.taking.NextRecord.TheVariants.{Bad}
-use Rattle.recording.proofs.Places.{Inside}
-use Rattle.grading_rules.specs.Feeding.{broken_at, fed_piece}
+use Rattle.grading_rules.specs.Feeding.{broken_at}
 use Rattle.grading_step.specs.Scaffolding.{shelf, joined}
-use Rattle.grading.specs.Scaffolding.{replay_on}
 use Rattle.grading.proofs.Loops.{further, gives, breaks, holds_as, other-fault, ends_as, begun-inside, begins, eq-le, counts, joins, in-slot, no_slot, shelved, no-bill}
-use borrow.Author.Rules.{rules}
 use native.Mathlib.Omega.{arith}
+use Rattle.dispenser_rules.specs.Requests.{slots_after}
+use Rattle.validator_rules.specs.Bills.{booked_by}
 use Rattle.grading.proofs.desk.through.Goals as goal
+use Rattle.grading.proofs.desk.through.Goals.{then-slot-lt-MOST, else-slot-lt-MOST, then-bill-lt-TYPES, else-bill-lt-TYPES}
 
 pub loop-i-init : goal.loop-i-init
 loop-i-init c = (
@@ -67,7 +63,7 @@ returns-in_default c =
     let told = c.record_in-found.ensures in
     c.broken.ensures
     ∙ ap (broken_at _) c.start_of.ensures
-    ∙ breaks _ _ turn.i turn.cut _ h inv.1 inv.6 found told d (other-fault _ c.in_default.keys2) c.in-Bad.is inv.7
+    ∙ breaks _ _ turn.i turn.cut _ h inv.1 inv.6 found told d (other-fault _ c.in_default.not-Cut) c.in-Bad.is inv.7
 
 pub step-moved-requires : goal.step-moved-requires
 step-moved-requires c =
@@ -110,8 +106,16 @@ loop-i-preserved c =
     let size = c.in-Whole.size in
     let is = c.in-Whole.is in
     let noted = c.written-noted.result in
-    let kept = ⊎_elim (λ w. w.1 ∙ in-slot turn.slots noted w.0.taken) (λ w. w.1 ∙ no_slot turn.slots noted w.0.left) c.if-slot-lt-MOST.branch in
-    let credited = ⊎_elim (λ w. w.2 ∙ w.1.ensures) (λ w. w.1 ∙ no-bill _ _ w.0.left) c.if-bill-lt-TYPES.branch in
+    let kept : c.if-slot-lt-MOST.slots ≡ slots_after turn.slots noted =
+    elim c.if-slot-lt-MOST.branch [
+      | then-slot-lt-MOST w ↦ w.slots-is ∙ in-slot turn.slots noted w.if-slot-lt-MOST.true
+      | else-slot-lt-MOST w ↦ w.slots-is ∙ no_slot turn.slots noted w.if-slot-lt-MOST.false
+    ] in
+    let credited : c.if-bill-lt-TYPES.bills ≡ booked_by turn.bills moved.bill =
+    elim c.if-bill-lt-TYPES.branch [
+      | then-bill-lt-TYPES w ↦ w.bills-is ∙ w.booked-counts.ensures
+      | else-bill-lt-TYPES w ↦ w.bills-is ∙ no-bill turn.bills moved.bill w.if-bill-lt-TYPES.false
+    ] in
     let on = shelved turn.books c.booked-entered.result turn.slots c.if-slot-lt-MOST.slots moved.run.asked moved.run.payer.handed moved.entry noted c.booked-entered.ensures c.written-noted.ensures kept in
     let f = further _ _ turn.i turn.cut _ h inv.1 inv.6 found told d x size is in
     let n = counts d _ x g in (

@@ -1,20 +1,15 @@
 -- `grading::desk::through` meets its contract. The invariant: what is left of the piece, fed to what the loop has, leaves what the whole piece leaves; there are no more records
 -- than bytes fed. Assumes nothing.
-use mathlib.Core.Path.{◌≡◌, sym, ap, ◌∙◌}
-use mathlib.Core.Logic.{⊎_elim}
-use mathlib.Core.Bool.{true, false, cond, true≢false}
+use mathlib.Core.Path.{◌≡◌}
+use mathlib.Core.Bool.{true, false, cond}
 use Prim.Native.Nat.{◌+◌, ◌-◌, ◌≤◌}
 use lib.ListN.{length, drop}
 use Rattle.recording.specs.Reading.{fresh_reader}
 use Rattle.recording.specs.Taking.{glances_in}
-use Rattle.recording.specs.declared.taking.NextRecord.TheVariants.{Bad}
 use Rattle.recording.proofs.Places.{Inside}
-use Rattle.grading_rules.specs.Feeding.{broken_at, fed_piece}
+use Rattle.grading_rules.specs.Feeding.{fed_piece}
 use Rattle.grading_step.specs.Scaffolding.{shelf, joined}
 use Rattle.grading.specs.Scaffolding.{replay_on}
-use Rattle.grading.proofs.Loops.{further, gives, breaks, holds_as, other-fault, ends_as, begun-inside, begins, eq-le, counts, joins, in-slot, no_slot, shelved, no-bill}
-use borrow.Author.Rules.{rules}
-use native.Mathlib.Omega.{arith}
 use Rattle.grading.proofs.desk.through.Given as goal
 
 abbrev pub invariant-loop-i : goal.invariant-loop-i

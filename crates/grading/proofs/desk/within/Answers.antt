@@ -2,7 +2,6 @@
 use mathlib.Core.Path.{◌∙◌}
 use native.Mathlib.Omega.{arith}
 use Rattle.grading.proofs.Loops.{all_past, part_length, some-part, whole_part, past-part}
-use borrow.Author.Rules.{rules}
 use Rattle.grading.proofs.desk.within.Goals as goal
 
 pub returns-then-left-eq0 : goal.returns-then-left-eq0

@@ -15,4 +15,4 @@ returns c =
     let tally = c.tallied-tally in
     lives args.desk args.room.now args.room255.now (search (rules, c.to_dispenser-arg-1.given))
     (search (rules, c.to_validator-arg-1.given)) args.x paid.result taken.result _ _ tally.result.errors tally.result.declined paid.ensures taken.ensures
-    tally.ensures.0 tally.ensures.1
+    tally.ensures.errors tally.ensures.declined

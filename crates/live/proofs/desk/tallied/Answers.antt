@@ -2,7 +2,6 @@
 use Prim.Native.Nat.{◌+◌}
 use mathlib.Core.Path.{sym, ◌∙◌}
 use Rattle.refusals.proofs.Rules.{cond-true, cond-false}
-use borrow.Author.Rules.{rules}
 use Rattle.live.proofs.desk.tallied.Goals as goal
 
 pub returns-then-declines : goal.returns-then-declines

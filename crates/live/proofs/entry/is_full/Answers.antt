@@ -1,5 +1,5 @@
 -- `live::entry::is_full` meets its contract. Assumes nothing.
-use Prim.Native.Nat.{◌+◌, ◌<◌}
+use Prim.Native.Nat.{◌+◌}
 use mathlib.Core.Path.{sym}
 use mathlib.Core.Logic.{inl, inr}
 use native.Mathlib.Omega.{arith}
@@ -7,7 +7,6 @@ use borrow.Author.Tests.{le-ltb, lt-leb}
 use Rattle.refusals.proofs.Rules.{holds-true}
 use Rattle.recording.specs.Record.{most_bytes}
 use Rattle.live_rules.specs.Entering.{is_full}
-use borrow.Author.Rules.{rules}
 use Rattle.live.proofs.entry.is_full.Goals as goal
 
 pub returns-then-left-size : goal.returns-then-left-size

@@ -1,7 +1,6 @@
 -- `live::entry::note` meets its contract. Assumes nothing.
 use mathlib.Core.Path.{sym, ◌∙◌}
 use Rattle.live.proofs.Entries.{was-full, was-written}
-use borrow.Author.Rules.{rules}
 use Rattle.live.proofs.entry.note.Goals as goal
 
 pub returns-then-is_full : goal.returns-then-is_full

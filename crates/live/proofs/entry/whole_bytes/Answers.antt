@@ -1,7 +1,6 @@
 -- `live::whole_bytes` meets its contract. Assumes nothing.
 use Rattle.live_rules.specs.Entering.{whole_bytes}
 use Rattle.live.proofs.Entries.{begun-whole}
-use borrow.Author.Rules.{rules}
 use Rattle.live.proofs.entry.whole_bytes.Goals as goal
 
 pub returns-in-Kind : goal.returns-in-Kind
@@ -10,4 +9,4 @@ returns-in-Kind c = rw c.in-Kind.is
 
 pub returns-in_default : goal.returns-in_default
 unfolding whole_bytes
-returns-in_default c = let args = c.args in begun-whole args.reader.place c.in_default.keys2 args.reader.start args.fed
+returns-in_default c = let args = c.args in begun-whole args.reader.place c.in_default.not-Kind args.reader.start args.fed

@@ -1,5 +1,4 @@
 -- `vcdm::session::act` meets its contract, case by case of what is to be done. Assumes nothing.
-use borrow.Author.Rules.{rules}
 use Rattle.vcdm.proofs.session.act.Goals as goal
 
 pub returns-in-Nothing : goal.returns-in-Nothing

@@ -1,6 +1,5 @@
 -- `vcdm::session::bad` meets its contract. Assumes nothing.
 use Rattle.vcdm_rules.specs.Session.{bad_step}
-use borrow.Author.Rules.{rules}
 use Rattle.vcdm.proofs.session.bad.Goals as goal
 
 pub returns : goal.returns

@@ -1,6 +1,5 @@
 -- `vcdm::session::conclude` meets its contract, by what the answer is. Assumes nothing.
 use mathlib.Core.Path.{sym, ◌∙◌}
-use borrow.Author.Rules.{rules}
 use Rattle.vcdm.proofs.session.conclude.Goals as goal
 
 pub returns-in-Bad : goal.returns-in-Bad

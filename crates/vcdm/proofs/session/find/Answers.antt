@@ -2,7 +2,6 @@
 use mathlib.Core.Path.{◌∙◌}
 use borrow.Author.Tests.{eq-eqb, ne_eqb}
 use Rattle.vcdm_rules.specs.Session.{finding}
-use borrow.Author.Rules.{rules}
 use Rattle.vcdm.proofs.session.find.Goals as goal
 
 pub returns-then-code_of-code : goal.returns-then-code_of-code

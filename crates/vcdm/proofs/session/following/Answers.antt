@@ -1,7 +1,6 @@
 -- `vcdm::session::following` meets its contract. Assumes nothing.
 use borrow.Author.Tests.{lt-ltb, le-ltb}
 use Rattle.vcdm_rules.specs.Session.{following}
-use borrow.Author.Rules.{rules}
 use Rattle.vcdm.proofs.session.following.Goals as goal
 
 pub returns-then-serial-lt-LAST_SERIAL : goal.returns-then-serial-lt-LAST_SERIAL

@@ -1,5 +1,4 @@
 -- `vcdm::session::found_by` meets its contract, kind by kind of answer. Assumes nothing.
-use borrow.Author.Rules.{rules}
 use Rattle.vcdm.proofs.session.found_by.Goals as goal
 
 pub returns-in-Dispensed : goal.returns-in-Dispensed

@@ -3,7 +3,6 @@ use mathlib.Core.Path.{sym, ap, ◌∙◌}
 use lib.Seq.{length-take-le, take_all}
 use Rattle.vcdm_frame_rules.specs.Answer.{read_answer}
 use native.Mathlib.Omega.{arith}
-use borrow.Author.Rules.{rules}
 use Rattle.vcdm.proofs.session.gathered_answer.Goals as goal
 
 pub slice_bounds-read_answer-end : goal.slice_bounds-read_answer-end

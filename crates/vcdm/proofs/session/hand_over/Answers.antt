@@ -1,6 +1,5 @@
 -- `vcdm::session::hand_over` meets its contract. Assumes nothing.
 use Rattle.vcdm_rules.specs.Session.{hand_over}
-use borrow.Author.Rules.{rules}
 use Rattle.vcdm.proofs.session.hand_over.Goals as goal
 
 pub returns-in-Bytes : goal.returns-in-Bytes

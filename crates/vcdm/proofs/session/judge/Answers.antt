@@ -1,7 +1,6 @@
 -- `vcdm::session::judge` meets its contract. Assumes nothing.
 use mathlib.Core.Path.{sym, ◌∙◌}
 use Rattle.vcdm_rules.specs.Session.{judge_step}
-use borrow.Author.Rules.{rules}
 use Rattle.vcdm.proofs.session.judge.Goals as goal
 
 pub returns-in-Read : goal.returns-in-Read

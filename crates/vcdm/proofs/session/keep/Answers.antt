@@ -1,7 +1,6 @@
 -- `vcdm::session::keep` meets its contract. Assumes nothing.
 use mathlib.Core.Path.{sym}
 use lib.Seq.{set_out}
-use borrow.Author.Rules.{rules}
 use Rattle.vcdm.proofs.session.keep.Goals as goal
 
 pub returns-else-at-store : goal.returns-else-at-store

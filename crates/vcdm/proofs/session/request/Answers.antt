@@ -1,6 +1,5 @@
 -- `vcdm::session::request` meets its contract. Assumes nothing.
 use Rattle.vcdm_rules.specs.Session.{session_request}
-use borrow.Author.Rules.{rules}
 use Rattle.vcdm.proofs.session.request.Goals as goal
 
 pub returns : goal.returns

@@ -2,7 +2,6 @@
 use mathlib.Core.Path.{◌∙◌}
 use borrow.Author.Tests.{eq-eqb, ne_eqb}
 use Rattle.vcdm_rules.specs.Session.{serial_after}
-use borrow.Author.Rules.{rules}
 use Rattle.vcdm.proofs.session.serial_after.Goals as goal
 
 pub returns-then-code-eq-DISPENSE : goal.returns-then-code-eq-DISPENSE

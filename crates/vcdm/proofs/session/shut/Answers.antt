@@ -1,8 +1,7 @@
 -- `vcdm::session::shut` meets its contract. Assumes nothing.
-use mathlib.Core.Path.{sym, ◌∙◌}
+use mathlib.Core.Path.{◌∙◌}
 use Rattle.vcdm_rules.proofs.Judged.{more-most}
 use native.Mathlib.Omega.{arith}
-use borrow.Author.Rules.{rules}
 use Rattle.vcdm.proofs.session.shut.Goals as goal
 
 pub overflow_add-need : goal.overflow_add-need

@@ -1,7 +1,6 @@
 -- `vcdm::session::step_byte` meets its contract. Assumes nothing.
 use borrow.Author.Tests.{lt-ltb, le-ltb}
 use Rattle.vcdm_rules.specs.Session.{byte_step, byte_refusals}
-use borrow.Author.Rules.{rules}
 use Rattle.vcdm.proofs.session.step_byte.Goals as goal
 
 pub returns-then-room-lt-ROOM : goal.returns-then-room-lt-ROOM

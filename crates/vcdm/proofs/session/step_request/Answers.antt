@@ -1,7 +1,6 @@
 -- `vcdm::session::step_request` meets its contract. Assumes nothing.
 use borrow.Author.Tests.{lt-ltb, le-ltb, lt-leb, le-leb}
 use Rattle.vcdm_rules.specs.Session.{request_step, request_refusals}
-use borrow.Author.Rules.{rules}
 use Rattle.vcdm.proofs.session.step_request.Goals as goal
 
 pub returns-then-room-lt-ROOM : goal.returns-then-room-lt-ROOM

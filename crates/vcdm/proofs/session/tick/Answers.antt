@@ -1,7 +1,6 @@
 -- `vcdm::session::tick` meets its contract. Assumes nothing.
 use Rattle.vcdm_rules.proofs.Same.{left-serial}
 use Rattle.vcdm_rules.specs.Session.{session_tick}
-use borrow.Author.Rules.{rules}
 use Rattle.vcdm.proofs.session.tick.Goals as goal
 
 pub returns : goal.returns

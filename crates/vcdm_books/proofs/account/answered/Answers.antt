@@ -1,5 +1,4 @@
 -- `vcdm_books::account::answered` meets its contract, kind by kind of answer. Assumes nothing.
-use borrow.Author.Rules.{rules}
 use Rattle.vcdm_books.proofs.account.answered.Goals as goal
 
 pub returns-in-Dispensed : goal.returns-in-Dispensed

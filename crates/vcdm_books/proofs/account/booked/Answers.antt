@@ -1,5 +1,4 @@
 -- `vcdm_books::account::booked` meets its contract. Assumes nothing.
-use borrow.Author.Rules.{rules}
 use Rattle.vcdm_books.proofs.account.booked.Goals as goal
 
 pub returns-in-Done : goal.returns-in-Done

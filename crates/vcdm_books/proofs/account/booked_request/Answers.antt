@@ -1,5 +1,4 @@
 -- `vcdm_books::account::booked_request` meets its contract. Assumes nothing.
-use borrow.Author.Rules.{rules}
 use Rattle.vcdm_books.proofs.account.booked_request.Goals as goal
 
 pub returns-in-Done : goal.returns-in-Done

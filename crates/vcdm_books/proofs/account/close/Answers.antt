@@ -1,5 +1,4 @@
 -- `vcdm_books::account::close` meets its contract, closing by closing. Assumes nothing.
-use borrow.Author.Rules.{rules}
 use Rattle.vcdm_books.proofs.account.close.Goals as goal
 
 pub returns-in-Answered : goal.returns-in-Answered

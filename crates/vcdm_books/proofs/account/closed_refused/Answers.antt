@@ -1,6 +1,5 @@
 -- `vcdm_books::account::closed_refused` meets its contract. Assumes nothing.
 use Rattle.vcdm_rules.specs.Account.{account_refused}
-use borrow.Author.Rules.{rules}
 use Rattle.vcdm_books.proofs.account.closed_refused.Goals as goal
 
 pub returns : goal.returns

@@ -1,6 +1,5 @@
 -- `vcdm_books::account::closed_unknown` meets its contract. Assumes nothing.
 use Rattle.vcdm_rules.specs.Account.{account_unknown}
-use borrow.Author.Rules.{rules}
 use Rattle.vcdm_books.proofs.account.closed_unknown.Goals as goal
 
 pub returns : goal.returns

@@ -1,6 +1,5 @@
 -- `vcdm_books::account::opened` meets its contract. Assumes nothing.
 use Rattle.vcdm_rules.specs.Account.{account_opened}
-use borrow.Author.Rules.{rules}
 use Rattle.vcdm_books.proofs.account.opened.Goals as goal
 
 pub returns : goal.returns

@@ -1,6 +1,5 @@
 -- `vcdm_books::account::paid` meets its contract. Assumes nothing.
 use Rattle.vcdm_rules.specs.Account.{account_paid}
-use borrow.Author.Rules.{rules}
 use Rattle.vcdm_books.proofs.account.paid.Goals as goal
 
 pub returns : goal.returns

@@ -1,5 +1,4 @@
 -- `vcdm_rules::account::Account::fresh` meets its contract. Assumes nothing.
-use borrow.Author.Rules.{rules}
 use Rattle.vcdm_rules.proofs.account.Account.fresh.Goals as goal
 
 pub returns : goal.returns

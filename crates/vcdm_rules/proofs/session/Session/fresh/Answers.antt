@@ -1,6 +1,5 @@
 -- `vcdm_rules::session::Session::fresh` meets its contract. Assumes nothing.
 use Rattle.vcdm_rules.specs.Session.{fresh_session}
-use borrow.Author.Rules.{rules}
 use Rattle.vcdm_rules.proofs.session.Session.fresh.Goals as goal
 
 pub returns : goal.returns
