@@ -1,6 +1,7 @@
 -- A byte stands in a list exactly where it stands at a place of it; it is listed exactly where its class is not unlisted, by one computed test of all 256. Assumes nothing.
 use Prim.Native.Nat.{ℕ, zero, suc, ◌+◌, ◌≤◌, ◌<◌}
 use mathlib.Core.Path.{◌≡◌, refl, sym, ap, ◌∙◌}
+use native.Mathlib.Nat.{le_of_suc-le-suc, not-suc-le-zero}
 use mathlib.Core.Bool.{Bool, true, false, true≢false}
 use mathlib.Core.List.{List, [], ◌∷◌, ◌++◌}
 use mathlib.Core.Logic.{◌⊎◌, inl, inr, ⊎_elim, ◌↔◌}
@@ -14,6 +15,12 @@ use Rattle.error_codes.specs.Errors.{run, listed, error_class}
 use Rattle.error_codes.specs.Promises.{Published}
 use Rattle.error_codes.specs.declared.ErrorClass.{ErrorClass}
 use Rattle.error_codes.specs.declared.ErrorClass.TheVariants.{Fine, OutOfNotes, NotSeated, Jam, CountInDoubt, OtherListed, Unlisted}
+
+pub among-at : (b : ℕ) (xs : List ℕ) (i : ℕ) → i < length xs → get_or xs i 0 ≡ b → (among b xs).holds
+unfolding among
+among-at b [] i h e = absurd (not-suc-le-zero h)
+among-at b (x ∷ xs) zero h e = inl e
+among-at b (x ∷ xs) (suc i) h e = inr (among-at b xs i (le_of_suc-le-suc h) e)
 
 pub among-place : (b : ℕ) (xs : List ℕ) → ((k : ℕ) → k < length xs → get_or xs k 0 ≡ b → ⊥) → (among b xs).holds → ⊥
 unfolding among

@@ -23,7 +23,7 @@ use Rattle.ledger.proofs.Follows.{OpenIn, At, least, follows-few}
 use Rattle.exchange_rules.specs.Limits.{quiet, hand_overs, command_limit, doubt_limit}
 use Rattle.exchange_rules.specs.Exchange.{is_open, fresh_line}
 use Rattle.exchange_rules.specs.Sums.{fresh_sums}
-use Rattle.exchange_rules.specs.Machine.{Model, Box, discipline, plain, quiet_after, request_refusals, history_refusals, Call, request, byte, tick, clear, clear_refusals, deed, called, host}
+use Rattle.exchange_rules.specs.Machine.{Model, Box, discipline, plain, quiet_after, request_refusals, history_refusals, Call, request, byte, tick, clear, clear_refusals, called, host}
 use Rattle.exchange_rules.specs.Kept.{Bounded, Within, Sound}
 use Rattle.exchange_rules.specs.Owed.{Lawful, saying, Session}
 use Rattle.exchange_rules.specs.declared.line.Line.{Line}

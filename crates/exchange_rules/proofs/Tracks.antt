@@ -16,8 +16,8 @@ use Rattle.refusals.specs.Rules.{under, at_most, same}
 use Rattle.refusals.proofs.Rules.{pick, either_way, certain, holds-true, fails-false, cond-true, cond-false}
 use Rattle.refusals.proofs.Writing.{take-over}
 use Rattle.ledger.specs.Events.{Deed, asks, hears, waits as passes, own, goes_on, closes, done, History, is_frame, taken, bytes, since}
-use Rattle.ledger.specs.Line.{quiet_time, accepted}
-use Rattle.ledger.specs.Account.{Ending, answered, refused, unknown, Totals, waiting, answered_by, turned_down, in_doubt, last_of, commands, with-share, totals, sums}
+use Rattle.ledger.specs.Line.{quiet_time}
+use Rattle.ledger.specs.Account.{Ending, answered, refused, unknown, Totals, waiting, answered_by, turned_down, in_doubt, last_of, with-share, totals, sums}
 use Rattle.ledger.specs.Told.{Verdict, bad, good, void, none, by_answer, by_refusal, by_doubt, ending, begun, turns}
 use Rattle.ledger.specs.Calls.{After, told}
 use Rattle.ledger.specs.Sent.{Sends}

@@ -64,6 +64,10 @@ reads_same =
 
 -- ---- record by record
 
+over_none : (room : List ℕ) → over [] room ≡ room
+unfolding over
+over_none room = refl
+
 -- bytes behind bytes
 over-both : (a b room : List ℕ) → a ++ over b (drop (length a) room) ≡ over (a ++ b) room
 unfolding over

@@ -30,6 +30,14 @@ pub reading-cons : (r : Reader) (at b : ℕ) (s : List ℕ)
 unfolding reading_from
 reading-cons r at b s = refl
 
+pub reading-end : (r : Reader) (at : ℕ) (s : List ℕ) (i : ℕ) → length s ≤ i → reading_from r at (drop i s) ≡ closing (ended r)
+reading-end r at s i h = ap (reading_from r at) (drop_of_length-le s h) ∙ reading-nil r at
+
+pub reading-at : (r : Reader) (s : List ℕ) (i : ℕ) → i < length s
+    → reading_from r i (drop i s)
+    ≡ went (read_byte r i (get_or s i 0)).outcome (reading_from (read_byte r i (get_or s i 0)).reader (i + 1) (drop (i + 1) s))
+reading-at r s i h = rw (drop-cons s i 0 h, add-one) (reading-cons r i (get_or s i 0) (drop (suc i) s))
+
 -- ---- the limit
 
 -- a byte before it

@@ -5,7 +5,8 @@ use mathlib.Core.Path.{◌≡◌, refl, sym, ap, ◌∙◌, subst}
 use mathlib.Core.Bool.{Bool, true, false, cond}
 use mathlib.Core.List.{List, [], ◌∷◌, ◌++◌}
 use native.Mathlib.Omega.{arith}
-use lib.ListN.{length, take, drop, length-drop}
+use lib.ListN.{length, take, drop, length-drop, take-append-drop}
+use lib.Seq.{drop-drop}
 use types.Run.{hit, miss}
 use Rattle.refusals.specs.Rules.{Condition, under, isnt, judged, ◌gives◌}
 use Rattle.numbers.specs.Seven.{number_end, next_group}
@@ -151,6 +152,13 @@ module _ (s : List ℕ) (i : ℕ) (h : i < length s) (f : NextRecord) (e : f ≡
 
   pub whole-read : {x : Record} {n : ℕ} → f ≡ Whole x n → Stands s i x n
   whole-read q = one-read s i h q leads
+
+  -- what the recording says from there on
+  pub whole_says : {x : Record} {n : ℕ} → f ≡ Whole x n
+      → reading_from fresh_reader i (drop i s) ≡ also x (reading_from fresh_reader (i + n) (drop (i + n) s))
+  whole_says {x} {n} q =
+      ap (reading_from fresh_reader i) (sym (take-append-drop n (drop i s)) ∙ ap (λ (t : List ℕ). take n (drop i s) ++ t) (drop-drop n i s))
+      ∙ (whole-read q).alone (drop (i + n) s)
 
   pub bad-says : {why : Fault} → f ≡ Bad why → reading_from fresh_reader i (drop i s) ≡ bad why i
   bad-says q = none_read q leads

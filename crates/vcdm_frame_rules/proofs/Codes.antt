@@ -93,7 +93,7 @@ pub asked-sound : (t : Bool) → Sound (asked_fields t)
 asked-sound true = (lit< tt, (lit< tt, (lit< tt, (lit< tt, tt))))
 asked-sound false = tt
 
--- Eight counts
+-- eight counts
 abbrev Eight : Type 0
 Eight = (223 < 300) × ((223 < 300) × ((223 < 300) × ((223 < 300) × ((223 < 300) × ((223 < 300) × ((223 < 300) × ((223 < 300) × Unit {0})))))))
 
