@@ -9,13 +9,13 @@ use std::io::{Read, Write};
 // More turns than there can be bytes.
 pub const TURNS: u64 = 18_446_744_073_709_551_615;
 
-// What the next bytes are: a record, none since the input has ended, or why they are none; or they cannot be read.
+// What the next bytes are: a record, none since the input has ended, or why they are none; or why they cannot be read.
 #[derive(Clone, Copy)]
 pub enum Event {
     Whole(Record),
     End,
     Bad(Fault),
-    Failed,
+    Failed(io::Error),
 }
 
 // The next record. A byte is read at a time: the lines bring no more than some thousand in a second.
@@ -24,11 +24,14 @@ pub fn next<R: Read>(input: &mut R) -> Event {
     let mut turns: u64 = TURNS;
     while 0 < turns {
         let mut read = [0u8; 1];
-        let Ok(got) = input.read(&mut read) else {
-            return no_byte(true, reader);
+        let got = match input.read(&mut read) {
+            Ok(got) => got,
+            Err(why) => {
+                return Event::Failed(why);
+            }
         };
         if got < 1 {
-            return no_byte(false, reader);
+            return no_byte(reader);
         }
         let step = reader.byte(0, read[0]);
         let outcome = step.outcome;
@@ -48,11 +51,8 @@ pub fn next<R: Read>(input: &mut R) -> Event {
     Event::End
 }
 
-// No byte came: the input cannot be read, or it has ended, which is a fault inside a record.
-fn no_byte(failed: bool, reader: Reader) -> Event {
-    if failed {
-        return Event::Failed;
-    }
+// No byte came: the input has ended, which is a fault inside a record.
+fn no_byte(reader: Reader) -> Event {
     match reader.ended() {
         Verdict::Good => Event::End,
         Verdict::Bad(why, _) => Event::Bad(why),

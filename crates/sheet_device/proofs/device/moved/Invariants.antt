@@ -1,0 +1,4 @@
+use Rattle.sheet_device.proofs.device.moved.Given as goal
+
+abbrev pub decreases-loop-left : goal.decreases-loop-left
+decreases-loop-left g l = l.left
