@@ -3,16 +3,14 @@
 #![tactic(auto)]
 
 use std::io;
-use std::io::{BufWriter, Write};
+use std::io::Write;
 
 mod table_lines;
 
 fn main(rt: HostRuntime) -> io::Result<()> {
     let mut store = [0u8; 65_536];
     let n = files::read_all(&mut rt.stdin(), &mut store)?;
-    let mut out = BufWriter::new(rt.alloc(), rt.stdout())?;
-    each(&mut out, &store[..n])?;
-    out.flush()
+    each(&mut rt.stdout(), &store[..n])
 }
 
 // Every line of a sheet, in turn.

@@ -6,7 +6,7 @@
 mod words;
 
 use std::io;
-use std::io::{BufWriter, Write};
+use std::io::Write;
 
 // One byte more than a sheet may have, so that one that is too long shows.
 const ROOM: usize = 262_145;
@@ -23,9 +23,7 @@ fn main(rt: HostRuntime) -> io::Result<()> {
     if n == ROOM {
         return sheet::print_text(&mut rt.stderr(), b"standard input: over 262,144 bytes\n");
     }
-    let mut out = BufWriter::new(rt.alloc(), rt.stdout())?;
-    each(&mut out, &store[..n])?;
-    out.flush()
+    each(&mut rt.stdout(), &store[..n])
 }
 
 // Every line of a sheet, in turn.

@@ -10,7 +10,7 @@ use dispenser_rules::Session;
 use pretend_rules::Device;
 use sheet_device::{moves, way};
 use std::io;
-use std::io::{BufWriter, Write};
+use std::io::Write;
 
 // One byte more than a sheet may have, so that one that is too long shows.
 const ROOM: usize = 262_145;
@@ -27,9 +27,7 @@ fn main(rt: HostRuntime) -> io::Result<()> {
     if n == ROOM {
         return sheet::print_text(&mut rt.stderr(), b"standard input: over 262,144 bytes\n");
     }
-    let mut out = BufWriter::new(rt.alloc(), rt.stdout())?;
-    each(&mut out, &store[..n])?;
-    out.flush()
+    each(&mut rt.stdout(), &store[..n])
 }
 
 // Every line of a sheet, in turn.

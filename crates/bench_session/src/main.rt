@@ -8,7 +8,7 @@ ghost use Rattle.std.specs.Prelude.{◌≤◌};
 use calls::Call;
 use dispenser_rules::{Outcome, Session};
 use std::io;
-use std::io::{BufWriter, Write};
+use std::io::Write;
 
 mod calls;
 mod show;
@@ -16,9 +16,7 @@ mod show;
 fn main(rt: HostRuntime) -> io::Result<()> {
     let mut store = [0u8; 65_536];
     let n = files::read_all(&mut rt.stdin(), &mut store)?;
-    let mut out = BufWriter::new(rt.alloc(), rt.stdout())?;
-    each(&mut out, &store[..n])?;
-    out.flush()
+    each(&mut rt.stdout(), &store[..n])
 }
 
 // Every line of a sheet, in turn. One session goes through them all, from one start to the next.

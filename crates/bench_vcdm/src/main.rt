@@ -6,7 +6,7 @@ ghost use Rattle.std.specs.Prelude.{◌≤◌};
 
 use calls::Call;
 use std::io;
-use std::io::{BufWriter, Write};
+use std::io::Write;
 use vcdm_rules::{Outcome, Session};
 
 mod calls;
@@ -17,9 +17,7 @@ mod words;
 fn main(rt: HostRuntime) -> io::Result<()> {
     let mut store = [0u8; 65_536];
     let n = files::read_all(&mut rt.stdin(), &mut store)?;
-    let mut out = BufWriter::new(rt.alloc(), rt.stdout())?;
-    each(&mut out, &store[..n])?;
-    out.flush()
+    each(&mut rt.stdout(), &store[..n])
 }
 
 // Every line of a sheet, in turn. One session goes through them all, from one start to the next.

@@ -11,7 +11,8 @@ use lib.ListN.{length, take, drop, get_or, set, length-drop, drop_of_length-le, 
 use lib.Seq.{drop-drop, drop-cons, length-take-le, take_all}
 use Rattle.refusals.specs.Rules.{under}
 use Rattle.refusals.proofs.Rules.{by_cases}
-use package.types.Run.{hit}
+use denote.Enum.Declared.{tag_of}
+use package.types.Run.{OneOf, hit, miss}
 use borrow.Author.Tests.{le-ltb, lt-ltb}
 use Rattle.validator_rules.specs.Limits.{types}
 use Rattle.validator_rules.specs.Bills.{booked_by}
@@ -20,7 +21,7 @@ use Rattle.recording.specs.Record.{most_bytes}
 use Rattle.recording.specs.Reading.{fresh_reader, refused_at, read_byte, ended_in, ended, past_in as past_step, taken_byte, reader_after}
 use Rattle.recording.specs.Taking.{found_from, found_at}
 use Rattle.recording.specs.declared.Fault.{Fault}
-use Rattle.recording.specs.declared.Fault.TheVariants.{Cut, Long}
+use Rattle.recording.specs.declared.Fault.TheVariants.{BadNumber, Cut, Unknown, Long}
 use Rattle.recording.specs.declared.Record.{Record}
 use Rattle.recording.specs.declared.Place.{Place}
 use Rattle.recording.specs.declared.Place.TheVariants.{Kind, Code, Upper, Lower, FromDispenser, Milliseconds, FromValidator, ToValidator, Broken}
@@ -31,6 +32,8 @@ use Rattle.recording.specs.declared.Outcome.TheVariants.{More, Whole as ByteWhol
 use Rattle.recording.specs.declared.Verdict.TheVariants.{Bad as NotGood}
 use Rattle.recording.specs.declared.taking.NextRecord.{NextRecord}
 use Rattle.recording.specs.declared.taking.NextRecord.TheVariants.{Whole, Bad}
+use Rattle.recording.specs.contracts.Fault.{the_type as the-fault}
+use Rattle.recording.specs.contracts.Place.{the_type as the-place}
 use Rattle.recording.proofs.Places.{within, Inside}
 use Rattle.recording.proofs.Folds.{taken-past}
 use Rattle.recording.proofs.Pieces.{Comes, due-in-piece, rest-in-piece}
@@ -103,8 +106,15 @@ module _ (piece : List ℕ) (fed i : ℕ) (cut : Bool) (begun : Reader) (h : i <
   holds_as d k p e₁ e₂ =
       ap (λ (z : Reader). replay_on d z (fed + length piece)) (e₂ ∙ ap (λ (z : Reader). reader_after z (fed + i) (drop i piece)) e₁) ∙ holds d k p
 
-pub other-fault : (why : Fault) → (why ≡ Cut → ⊥) → why ≡ Cut → ⊥
-other-fault why k e = k e
+-- a fault that is not that of a cut
+pub uncut : (why : Fault) → (why ≡ Cut → ⊥) → OneOf (0 ∷ 2 ∷ 3 ∷ []) (tag_of the-fault why)
+uncut BadNumber h = hit (0 ∷ 2 ∷ 3 ∷ []) 0 tt
+uncut Cut h = absurd (h refl)
+uncut Unknown h = hit (0 ∷ 2 ∷ 3 ∷ []) 2 tt
+uncut Long h = hit (0 ∷ 2 ∷ 3 ∷ []) 3 tt
+
+pub other-fault : (why : Fault) → OneOf (0 ∷ 2 ∷ 3 ∷ []) (tag_of the-fault why) → why ≡ Cut → ⊥
+other-fault why k e = miss (0 ∷ 2 ∷ 3 ∷ []) 1 tt (subst (λ (w : Fault). OneOf (0 ∷ 2 ∷ 3 ∷ []) (tag_of the-fault w)) e k)
 
 -- ---- the end of a piece
 
@@ -206,7 +216,7 @@ all_past w (b ∷ s) e h =
     ∙ sym (fed-cons w b s)
 
 -- past the limit, where no fault was met
-pub past-unbroken : (p : Place) (at : ℕ) → ((why : Fault) → p ≡ Broken why → ⊥) → broken_at Long most_bytes ≡ past_in p at
+pub past-unbroken : (p : Place) (at : ℕ) → OneOf (0 ∷ within) (tag_of the-place p) → broken_at Long most_bytes ≡ past_in p at
 past-unbroken Kind at h = refl
 past-unbroken Code at h = refl
 past-unbroken Upper at h = refl
@@ -215,9 +225,9 @@ past-unbroken FromDispenser at h = refl
 past-unbroken Milliseconds at h = refl
 past-unbroken FromValidator at h = refl
 past-unbroken ToValidator at h = refl
-past-unbroken (Broken why) at h = absurd (h why refl)
+past-unbroken (Broken why) at h = absurd (miss (0 ∷ within) 8 tt h)
 
-pub unbroken : (p : Place) → ((why : Fault) → p ≡ Broken why → ⊥) → Unbroken p
+pub unbroken : (p : Place) → OneOf (0 ∷ within) (tag_of the-place p) → Unbroken p
 unbroken Kind h = tt
 unbroken Code h = tt
 unbroken Upper h = tt
@@ -226,7 +236,7 @@ unbroken FromDispenser h = tt
 unbroken Milliseconds h = tt
 unbroken FromValidator h = tt
 unbroken ToValidator h = tt
-unbroken (Broken why) h = absurd (h why refl)
+unbroken (Broken why) h = absurd (miss (0 ∷ within) 8 tt h)
 
 -- a byte after a fault says that fault
 broken-byte : (r : Reader) (at b : ℕ) {why : Fault} → r.place ≡ Broken why → taken_byte r at b ≡ refused_at r.start why
@@ -246,8 +256,20 @@ broken-fed w (b ∷ s) {why} e h =
 
 -- ---- the reader
 
-pub not-due : (p : Place) → (p ≡ Kind → ⊥) → true ≡ is_begun p
-not-due Kind h = absurd (h refl)
+-- no kind is due
+pub past-kind : (p : Place) → (p ≡ Kind → ⊥) → OneOf (1 ∷ 2 ∷ 3 ∷ 4 ∷ 5 ∷ 6 ∷ 7 ∷ 8 ∷ []) (tag_of the-place p)
+past-kind Kind h = absurd (h refl)
+past-kind Code h = hit (1 ∷ 2 ∷ 3 ∷ 4 ∷ 5 ∷ 6 ∷ 7 ∷ 8 ∷ []) 1 tt
+past-kind Upper h = hit (1 ∷ 2 ∷ 3 ∷ 4 ∷ 5 ∷ 6 ∷ 7 ∷ 8 ∷ []) 2 tt
+past-kind Lower h = hit (1 ∷ 2 ∷ 3 ∷ 4 ∷ 5 ∷ 6 ∷ 7 ∷ 8 ∷ []) 3 tt
+past-kind FromDispenser h = hit (1 ∷ 2 ∷ 3 ∷ 4 ∷ 5 ∷ 6 ∷ 7 ∷ 8 ∷ []) 4 tt
+past-kind Milliseconds h = hit (1 ∷ 2 ∷ 3 ∷ 4 ∷ 5 ∷ 6 ∷ 7 ∷ 8 ∷ []) 5 tt
+past-kind FromValidator h = hit (1 ∷ 2 ∷ 3 ∷ 4 ∷ 5 ∷ 6 ∷ 7 ∷ 8 ∷ []) 6 tt
+past-kind ToValidator h = hit (1 ∷ 2 ∷ 3 ∷ 4 ∷ 5 ∷ 6 ∷ 7 ∷ 8 ∷ []) 7 tt
+past-kind (Broken why) h = hit (1 ∷ 2 ∷ 3 ∷ 4 ∷ 5 ∷ 6 ∷ 7 ∷ 8 ∷ []) 8 tt
+
+pub not-due : (p : Place) → OneOf (1 ∷ 2 ∷ 3 ∷ 4 ∷ 5 ∷ 6 ∷ 7 ∷ 8 ∷ []) (tag_of the-place p) → true ≡ is_begun p
+not-due Kind h = absurd (miss (1 ∷ 2 ∷ 3 ∷ 4 ∷ 5 ∷ 6 ∷ 7 ∷ 8 ∷ []) 0 tt h)
 not-due Code h = refl
 not-due Upper h = refl
 not-due Lower h = refl

@@ -2,10 +2,12 @@
 use Prim.Native.Nat.{ℕ, ◌<◌}
 use mathlib.Core.Path.{◌≡◌, refl, sym, ap, ◌∙◌}
 use mathlib.Core.Bool.{true, false}
-use mathlib.Core.List.{List}
+use mathlib.Core.List.{List, [], ◌∷◌}
 use mathlib.Core.Logic.{inl, inr}
 use native.Mathlib.Omega.{arith}
 use lib.ListN.{length}
+use denote.Enum.Declared.{tag_of}
+use package.types.Run.{OneOf, hit, miss}
 use Rattle.refusals.specs.Rules.{under}
 use Rattle.refusals.specs.Put.{Written, written}
 use Rattle.refusals.specs.declared.Put.{Put}
@@ -14,6 +16,8 @@ use Rattle.recording.specs.Record.{most_bytes, record_bytes}
 use Rattle.recording.specs.declared.Record.{Record}
 use Rattle.recording.specs.declared.Place.{Place}
 use Rattle.recording.specs.declared.Place.TheVariants.{Kind, Code, Upper, Lower, FromDispenser, Milliseconds, FromValidator, ToValidator, Broken}
+use Rattle.recording.specs.contracts.Place.{the_type as the-place}
+use Rattle.live_rules.specs.contracts.entry.Entry.{the_type as the-entry}
 use Rattle.record_writer.specs.Writing.{write_record}
 use Rattle.grading_rules.specs.declared.desk.Desk.{Desk}
 use Rattle.live_rules.specs.Live.{Living, lived, lived_by}
@@ -51,6 +55,12 @@ module _ (m a d : ℕ) (x : Record) (o : List ℕ) where
       let z : ◌≡◌ {A = ℕ} 0 1 = cc in absurd (omega arith))
       (λ l. (certain (under d most_bytes) (λ u. l (inr (inr (omega arith)))), certain (under a most_bytes) (λ u. l (inr (inl (omega arith))))))
 
+-- an entry without bytes
+pub no-bytes : (z : Entry) → ((n : ℕ) → z ≡ Bytes n → ⊥) → OneOf (1 ∷ 2 ∷ []) (tag_of the-entry z)
+no-bytes (Bytes n) i = absurd (i n refl)
+no-bytes (Refused why) i = hit (1 ∷ 2 ∷ []) 1 tt
+no-bytes Full i = hit (1 ∷ 2 ∷ []) 2 tt
+
 -- ---- and the desk
 
 module _ (d : Desk) (m : ℕ) (x : Record) (o r q : List ℕ) (y : Entry) (o' : List ℕ) (h : noted y o' ≡ noted_by m d.records d.declined x o) where
@@ -62,19 +72,30 @@ module _ (d : Desk) (m : ℕ) (x : Record) (o r q : List ℕ) (y : Entry) (o' : 
       → entered (record { entry = y; lived = v }) o' r' q' ≡ entered_by d m x o r q
   was-entered v n r' q' e k = leaves v r' q' (k ∙ sym (ap (λ (z : Entry). lived_as z d x r q) e))
 
-  stays : (z : Entry) → ((n : ℕ) → z ≡ Bytes n → ⊥) → idle d r q ≡ lived_as z d x r q
-  stays (Bytes n) i = absurd (i n refl)
+  stays : (z : Entry) → OneOf (1 ∷ 2 ∷ []) (tag_of the-entry z) → idle d r q ≡ lived_as z d x r q
+  stays (Bytes n) i = absurd (miss (1 ∷ 2 ∷ []) 0 tt i)
   stays (Refused why) i = refl
   stays Full i = refl
 
-  pub was-kept : ((n : ℕ) → y ≡ Bytes n → ⊥) → (v : Lived) → lived v r q ≡ idle d r q → entered (record { entry = y; lived = v }) o' r q ≡ entered_by d m x o r q
+  pub was-kept : OneOf (1 ∷ 2 ∷ []) (tag_of the-entry y) → (v : Lived) → lived v r q ≡ idle d r q → entered (record { entry = y; lived = v }) o' r q ≡ entered_by d m x o r q
   was-kept i v k = leaves v r q (k ∙ stays y i)
 
 -- ---- a recording that is taken up again
 
 -- where no kind is due, the whole records end before the record that is begun
-pub begun-whole : (p : Place) → (p ≡ Kind → ⊥) → (start fed : ℕ) → start ≡ whole_in p start fed
-begun-whole Kind h start fed = absurd (h refl)
+pub past-kind : (p : Place) → (p ≡ Kind → ⊥) → OneOf (1 ∷ 2 ∷ 3 ∷ 4 ∷ 5 ∷ 6 ∷ 7 ∷ 8 ∷ []) (tag_of the-place p)
+past-kind Kind h = absurd (h refl)
+past-kind Code h = hit (1 ∷ 2 ∷ 3 ∷ 4 ∷ 5 ∷ 6 ∷ 7 ∷ 8 ∷ []) 1 tt
+past-kind Upper h = hit (1 ∷ 2 ∷ 3 ∷ 4 ∷ 5 ∷ 6 ∷ 7 ∷ 8 ∷ []) 2 tt
+past-kind Lower h = hit (1 ∷ 2 ∷ 3 ∷ 4 ∷ 5 ∷ 6 ∷ 7 ∷ 8 ∷ []) 3 tt
+past-kind FromDispenser h = hit (1 ∷ 2 ∷ 3 ∷ 4 ∷ 5 ∷ 6 ∷ 7 ∷ 8 ∷ []) 4 tt
+past-kind Milliseconds h = hit (1 ∷ 2 ∷ 3 ∷ 4 ∷ 5 ∷ 6 ∷ 7 ∷ 8 ∷ []) 5 tt
+past-kind FromValidator h = hit (1 ∷ 2 ∷ 3 ∷ 4 ∷ 5 ∷ 6 ∷ 7 ∷ 8 ∷ []) 6 tt
+past-kind ToValidator h = hit (1 ∷ 2 ∷ 3 ∷ 4 ∷ 5 ∷ 6 ∷ 7 ∷ 8 ∷ []) 7 tt
+past-kind (Broken why) h = hit (1 ∷ 2 ∷ 3 ∷ 4 ∷ 5 ∷ 6 ∷ 7 ∷ 8 ∷ []) 8 tt
+
+pub begun-whole : (p : Place) → OneOf (1 ∷ 2 ∷ 3 ∷ 4 ∷ 5 ∷ 6 ∷ 7 ∷ 8 ∷ []) (tag_of the-place p) → (start fed : ℕ) → start ≡ whole_in p start fed
+begun-whole Kind h start fed = absurd (miss (1 ∷ 2 ∷ 3 ∷ 4 ∷ 5 ∷ 6 ∷ 7 ∷ 8 ∷ []) 0 tt h)
 begun-whole Code h start fed = refl
 begun-whole Upper h start fed = refl
 begun-whole Lower h start fed = refl

@@ -2,9 +2,12 @@
 use Prim.Native.Nat.{ℕ, ◌+◌}
 use mathlib.Core.Path.{◌≡◌, refl, ap, ap₂, ◌∙◌}
 use mathlib.Core.Bool.{Bool, true, false, cond, ◌||◌}
-use mathlib.Core.List.{List, []}
+use mathlib.Core.List.{List, [], ◌∷◌}
 use lib.ListN.{length}
+use denote.Enum.Declared.{tag_of}
+use package.types.Run.{OneOf, hit, miss}
 use Rattle.refusals.specs.declared.Declined.TheVariants.{Open}
+use Rattle.recording.specs.contracts.Record.{the_type as the-record}
 use Rattle.exchange_rules.specs.Exchange.{doubted}
 use Rattle.exchange_rules.specs.Limits.{least_room}
 use Rattle.exchange_rules.specs.declared.line.Line.{Line}
@@ -78,20 +81,35 @@ module _ (d : Desk) where
 
 -- ---- a session that the record is not for
 
-pub payer-untouched : (x : Record) → ((code upper lower : ℕ) → x ≡ Request code upper lower → ⊥) → ((b : ℕ) → x ≡ DispenserByte b → ⊥) → ((ms : ℕ) → x ≡ Tick ms → ⊥) → (x ≡ Clear → ⊥)
-    → (s : Session) (r : List ℕ) → untouched s r ≡ to_payer s x r
-payer-untouched (Request code upper lower) q d k c s r = absurd (q code upper lower refl)
-payer-untouched (DispenserByte b) q d k c s r = absurd (d b refl)
-payer-untouched (Tick ms) q d k c s r = absurd (k ms refl)
-payer-untouched (ValidatorByte b) q d k c s r = refl
-payer-untouched (Command code) q d k c s r = refl
-payer-untouched Clear q d k c s r = absurd (c refl)
+pub not-paying : (x : Record) → ((code upper lower : ℕ) → x ≡ Request code upper lower → ⊥) → ((b : ℕ) → x ≡ DispenserByte b → ⊥) → ((ms : ℕ) → x ≡ Tick ms → ⊥) → (x ≡ Clear → ⊥)
+    → OneOf (3 ∷ 4 ∷ []) (tag_of the-record x)
+not-paying (Request code upper lower) q d k c = absurd (q code upper lower refl)
+not-paying (DispenserByte b) q d k c = absurd (d b refl)
+not-paying (Tick ms) q d k c = absurd (k ms refl)
+not-paying (ValidatorByte b) q d k c = hit (3 ∷ 4 ∷ []) 3 tt
+not-paying (Command code) q d k c = hit (3 ∷ 4 ∷ []) 4 tt
+not-paying Clear q d k c = absurd (c refl)
 
-pub taker-untouched : (x : Record) → ((b : ℕ) → x ≡ ValidatorByte b → ⊥) → ((ms : ℕ) → x ≡ Tick ms → ⊥) → ((code : ℕ) → x ≡ Command code → ⊥)
-    → (s : Taker) (r : List ℕ) → taker_untouched s r ≡ to_taker s x r
-taker-untouched (Request code upper lower) v k c s r = refl
-taker-untouched (DispenserByte b) v k c s r = refl
-taker-untouched (Tick ms) v k c s r = absurd (k ms refl)
-taker-untouched (ValidatorByte b) v k c s r = absurd (v b refl)
-taker-untouched (Command code) v k c s r = absurd (c code refl)
-taker-untouched Clear v k c s r = refl
+pub not-taking : (x : Record) → ((b : ℕ) → x ≡ ValidatorByte b → ⊥) → ((ms : ℕ) → x ≡ Tick ms → ⊥) → ((code : ℕ) → x ≡ Command code → ⊥) → OneOf (0 ∷ 1 ∷ 5 ∷ []) (tag_of the-record x)
+not-taking (Request code upper lower) v k c = hit (0 ∷ 1 ∷ 5 ∷ []) 0 tt
+not-taking (DispenserByte b) v k c = hit (0 ∷ 1 ∷ 5 ∷ []) 1 tt
+not-taking (Tick ms) v k c = absurd (k ms refl)
+not-taking (ValidatorByte b) v k c = absurd (v b refl)
+not-taking (Command code) v k c = absurd (c code refl)
+not-taking Clear v k c = hit (0 ∷ 1 ∷ 5 ∷ []) 5 tt
+
+pub payer-untouched : (x : Record) → OneOf (3 ∷ 4 ∷ []) (tag_of the-record x) → (s : Session) (r : List ℕ) → untouched s r ≡ to_payer s x r
+payer-untouched (Request code upper lower) h s r = absurd (miss (3 ∷ 4 ∷ []) 0 tt h)
+payer-untouched (DispenserByte b) h s r = absurd (miss (3 ∷ 4 ∷ []) 1 tt h)
+payer-untouched (Tick ms) h s r = absurd (miss (3 ∷ 4 ∷ []) 2 tt h)
+payer-untouched (ValidatorByte b) h s r = refl
+payer-untouched (Command code) h s r = refl
+payer-untouched Clear h s r = absurd (miss (3 ∷ 4 ∷ []) 5 tt h)
+
+pub taker-untouched : (x : Record) → OneOf (0 ∷ 1 ∷ 5 ∷ []) (tag_of the-record x) → (s : Taker) (r : List ℕ) → taker_untouched s r ≡ to_taker s x r
+taker-untouched (Request code upper lower) h s r = refl
+taker-untouched (DispenserByte b) h s r = refl
+taker-untouched (Tick ms) h s r = absurd (miss (0 ∷ 1 ∷ 5 ∷ []) 2 tt h)
+taker-untouched (ValidatorByte b) h s r = absurd (miss (0 ∷ 1 ∷ 5 ∷ []) 3 tt h)
+taker-untouched (Command code) h s r = absurd (miss (0 ∷ 1 ∷ 5 ∷ []) 4 tt h)
+taker-untouched Clear h s r = refl

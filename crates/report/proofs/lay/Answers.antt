@@ -1,6 +1,5 @@
 -- `report::lay` meets its contract. The invariant: i bytes are laid, and the rest of the room is as it was. Assumes nothing.
 use mathlib.Core.Path.{◌≡◌, refl}
-use Prim.Native.Nat.{◌-◌}
 use lib.ListN.{length, length-set}
 use Rattle.refusals.proofs.Writing.{writing-refused, writing-laid}
 use Rattle.report.proofs.Laying.{lay-byte, lay-rest, lay-all}

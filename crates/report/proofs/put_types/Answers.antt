@@ -1,5 +1,4 @@
 -- `report::put_types` meets its contract. The invariant: the lines of the first y types are added. Assumes nothing.
-use Prim.Native.Nat.{◌-◌}
 use Rattle.report.proofs.Types.{types-begin, types-next, types-all}
 use borrow.Author.Rules.{rules}
 use native.Mathlib.Omega.{arith}

@@ -1,6 +1,7 @@
 -- `grading::desk::feed` meets its contract. Assumes nothing.
 use mathlib.Core.Path.{◌∙◌}
 use native.Mathlib.Omega.{arith}
+use Rattle.recording.proofs.Places.{sound-unless}
 use Rattle.grading.proofs.Loops.{empty-fed, unbroken, broken-fed}
 use Rattle.grading.proofs.desk.feed.Goals as goal
 
@@ -9,7 +10,7 @@ returns-then-piece-eq0 c = empty-fed c.args.replay c.args.piece.now c.if-piece-e
 
 pub within-requires : goal.within-requires
 within-requires c =
-    record { counted = c.requires; unbroken = unbroken c.args.replay.reader.place c.in_default.not-Broken; piece_nonzero = omega (arith, c.if-piece-eq0.false) }
+    record { counted = c.requires; unbroken = unbroken c.args.replay.reader.place (sound-unless _ c.in_default.not-Broken); piece_nonzero = omega (arith, c.if-piece-eq0.false) }
 
 pub returns-in-Broken : goal.returns-in-Broken
 returns-in-Broken c =

@@ -1,6 +1,5 @@
 -- `grading::desk::reader_after` meets its contract. The invariant: the reader goes on from i as from the start. Assumes nothing.
 use mathlib.Core.Path.{refl, sym, ◌∙◌}
-use Prim.Native.Nat.{◌-◌}
 use Rattle.grading.proofs.Loops.{after_one, after-end}
 use borrow.Author.Rules.{rules}
 use Rattle.grading.proofs.desk.reader_after.Goals as goal

@@ -1,12 +1,11 @@
 -- `grading::desk::through` meets its contract. The invariant: what is left of the piece, fed to what the loop has, leaves what the whole piece leaves; there are no more records
 -- than bytes fed. Assumes nothing.
 use mathlib.Core.Path.{◌≡◌, sym, ap, ◌∙◌}
-use mathlib.Core.Bool.{true, false, true≢false}
-use Prim.Native.Nat.{◌-◌}
+use mathlib.Core.Bool.{true≢false}
 use Rattle.recording.specs.declared.taking.NextRecord.TheVariants.{Bad}
 use Rattle.grading_rules.specs.Feeding.{broken_at}
 use Rattle.grading_step.specs.Scaffolding.{shelf, joined}
-use Rattle.grading.proofs.Loops.{further, gives, breaks, holds_as, other-fault, ends_as, begun-inside, begins, eq-le, counts, joins, in-slot, no_slot, shelved, no-bill}
+use Rattle.grading.proofs.Loops.{further, gives, breaks, holds_as, other-fault, uncut, ends_as, begun-inside, begins, eq-le, counts, joins, in-slot, no_slot, shelved, no-bill}
 use native.Mathlib.Omega.{arith}
 use Rattle.dispenser_rules.specs.Requests.{slots_after}
 use Rattle.validator_rules.specs.Bills.{booked_by}
@@ -63,7 +62,7 @@ returns-in_default c =
     let told = c.record_in-found.ensures in
     c.broken.ensures
     ∙ ap (broken_at _) c.start_of.ensures
-    ∙ breaks _ _ turn.i turn.cut _ h inv.1 inv.6 found told d (other-fault _ c.in_default.not-Cut) c.in-Bad.is inv.7
+    ∙ breaks _ _ turn.i turn.cut _ h inv.1 inv.6 found told d (other-fault _ (uncut _ c.in_default.not-Cut)) c.in-Bad.is inv.7
 
 pub step-moved-requires : goal.step-moved-requires
 step-moved-requires c =

@@ -1,5 +1,5 @@
 -- `live::desk::to_validator` meets its contract, kind by kind. Assumes nothing.
-use Rattle.live.proofs.Steps.{taker-untouched}
+use Rattle.live.proofs.Steps.{not-taking, taker-untouched}
 use Rattle.live.proofs.desk.to_validator.Goals as goal
 
 pub returns-in-ValidatorByte : goal.returns-in-ValidatorByte
@@ -12,4 +12,4 @@ pub returns-in-Command : goal.returns-in-Command
 returns-in-Command c = rw c.in-Command.is c.request.ensures
 
 pub returns-in_default : goal.returns-in_default
-returns-in_default c = taker-untouched c.args.x c.in_default.not-ValidatorByte c.in_default.not-Tick c.in_default.not-Command c.args.session c.args.room.now
+returns-in_default c = taker-untouched c.args.x (not-taking c.args.x c.in_default.not-ValidatorByte c.in_default.not-Tick c.in_default.not-Command) c.args.session c.args.room.now

@@ -1,5 +1,5 @@
 -- `live::enter` meets its contract. Assumes nothing.
-use Rattle.live.proofs.Entries.{can-grow, was-entered, was-kept}
+use Rattle.live.proofs.Entries.{can-grow, no-bytes, was-entered, was-kept}
 use mathlib.Core.Path.{refl}
 use Rattle.live.proofs.entry.enter.Goals as goal
 
@@ -21,4 +21,4 @@ pub returns-in_default : goal.returns-in_default
 returns-in_default c =
     let args = c.args in
     let note = c.note-entry in
-    was-kept args.desk args.written args.x args.out.now args.room.now args.room255.now note.result _ note.ensures c.in_default.not-Bytes _ refl
+    was-kept args.desk args.written args.x args.out.now args.room.now args.room255.now note.result _ note.ensures (no-bytes note.result c.in_default.not-Bytes) _ refl

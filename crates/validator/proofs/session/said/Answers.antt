@@ -1,6 +1,6 @@
 -- `validator::session::said` meets its contract, class by class. Assumes nothing.
 use mathlib.Core.Path.{sym, ◌∙◌}
-use Rattle.validator.proofs.Deeds.{replies, other-class}
+use Rattle.validator.proofs.Deeds.{beyond-three, replies, other-class}
 use Rattle.validator.proofs.session.said.Goals as goal
 
 pub returns-in-Ack : goal.returns-in-Ack
@@ -14,4 +14,4 @@ returns-in-Illegal c = simp (c.in-Illegal.is, c.close-in-Illegal.ensures.0, c.cl
 
 pub returns-in_default : goal.returns-in_default
 returns-in_default c = let s = c.args in
-    c.answered.ensures ∙ sym (other-class s.class (replies s.class c.in_default.not-Ack c.in_default.not-Nak c.in_default.not-Illegal) s.line s.room.now)
+    c.answered.ensures ∙ sym (other-class s.class (replies s.class (beyond-three s.class c.in_default.not-Ack c.in_default.not-Nak c.in_default.not-Illegal)) s.line s.room.now)

@@ -1,7 +1,4 @@
 -- `words::books::bills` ends in time: each type adds one sentence at most. Assumes nothing.
-use mathlib.Core.Path.{◌≡◌}
-use Prim.Native.Nat.{◌+◌, ◌*◌, ◌-◌, ◌≤◌}
-use lib.ListN.{length}
 use borrow.Author.Rules.{rules}
 use Rattle.words.proofs.books.bills.Goals as goal
 

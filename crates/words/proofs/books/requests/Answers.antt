@@ -1,7 +1,4 @@
 -- `words::books::requests` ends in time: each request adds one line at most. Assumes nothing.
-use mathlib.Core.Path.{◌≡◌}
-use Prim.Native.Nat.{◌*◌, ◌-◌, ◌≤◌}
-use lib.ListN.{length}
 use borrow.Author.Rules.{rules}
 use Rattle.words.proofs.books.requests.Goals as goal
 
