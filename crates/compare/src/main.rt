@@ -5,69 +5,72 @@
 // changes nothing (`LeavingOut` and `Window` in crates/parted/specs/Promises.antt).
 #![tactic(auto)]
 
-ghost use Rattle.std.specs.Prelude.{◌≤◌, length};
+ghost use Rattle.std.specs.Prelude.{◌≤◌, length, IfOk};
 ghost use Rattle.compare.specs.Progress.{Progress};
 
-use libc::STDERR_FILENO;
+use std::fs::File;
+use std::io;
+use std::io::Write;
+use std::os::unix::fs::FileExt;
 
 // The most bytes that a recording may have.
 const MOST: usize = 4_294_967_295;
 
-fn main() {
-    each(os::arg_count());
+// The most bytes that are read at once.
+const PIECE: usize = 65_536;
+
+// The most bytes of a path.
+const PATH: usize = 4_096;
+
+fn main(rt: HostRuntime) {
+    each(rt, files::arg_count(&rt));
 }
 
 // Every two arguments, behind the program's own name.
-fn each(count: usize) {
+fn each(rt: HostRuntime, count: usize) {
     let mut left = count;
     while 2 < left {
         let student = count - left + 1;
-        opened(student, student + 1);
+        opened(rt, student, student + 1);
         left -= 2;
     }
 }
 
 // The two files that arguments name.
-fn opened(i: usize, j: usize) {
-    let mut student = io::buffer();
-    let n = os::arg(i, &mut student);
-    if os::errno() != 0 {
-        os::fail(&student);
-        return;
+fn opened(rt: HostRuntime, i: usize, j: usize) {
+    let mut student = [0u8; PATH];
+    match files::arg(&rt, i, &mut student) {
+        Ok(n) => beside(rt, &student[..n], j),
+        Err(why) => files::fail(&mut rt.stderr(), &student, why),
     }
-    let mut reference = io::buffer();
-    let m = os::arg(j, &mut reference);
-    if os::errno() != 0 {
-        os::fail(&reference);
-        return;
+}
+
+// And the second of them.
+fn beside(rt: HostRuntime, student: &[u8], j: usize) {
+    let mut reference = [0u8; PATH];
+    match files::arg(&rt, j, &mut reference) {
+        Ok(m) => both(rt, student, &reference[..m]),
+        Err(why) => files::fail(&mut rt.stderr(), &reference, why),
     }
-    both(&student[..n], &reference[..m]);
 }
 
 // The two files of those names.
-fn both(student: &[u8], reference: &[u8]) {
-    let s = os::open_read(student);
-    if s < 0 {
-        os::fail(student);
-        return;
+fn both(rt: HostRuntime, student: &[u8], reference: &[u8]) {
+    match files::open_read(&rt, student) {
+        Ok(s) => match files::open_read(&rt, reference) {
+            Ok(r) => compare_files(rt, &s, &r, student, reference),
+            Err(why) => files::fail(&mut rt.stderr(), reference, why),
+        },
+        Err(why) => files::fail(&mut rt.stderr(), student, why),
     }
-    let r = os::open_read(reference);
-    if r < 0 {
-        os::fail(reference);
-        libc::close(s);
-        return;
-    }
-    compare_files(s, r, student, reference);
-    libc::close(s);
-    libc::close(r);
 }
 
 // Passes over equal whole records until there are none, or more than a recording may have.
-fn compare_files(s: i32, r: i32, student: &[u8], reference: &[u8]) {
+fn compare_files(rt: HostRuntime, s: &File, r: &File, student: &[u8], reference: &[u8]) {
     let mut at: usize = 0;
     let mut records: usize = 0;
     while at <= MOST {
-        match look_at(s, r, student, reference, at, records) {
+        match look_at(rt, s, r, student, reference, at, records) {
             Look::On(bytes, more) => {
                 at += bytes;
                 records += more;
@@ -77,11 +80,8 @@ fn compare_files(s: i32, r: i32, student: &[u8], reference: &[u8]) {
             }
         }
     }
-    io::write_all(STDERR_FILENO, student);
-    io::write_all(
-        STDERR_FILENO,
-        b": over 4,294,967,295 bytes, and no difference in them\n",
-    );
+    let _ = Write::write_all(&mut rt.stderr(), student);
+    let _ = eprintln!(rt; ": over 4,294,967,295 bytes, and no difference in them");
 }
 
 // What a look at two files from the end of a record on brings.
@@ -94,29 +94,59 @@ pub(crate) enum Look {
 }
 
 // Behind `at` bytes, which are so many records: a window of each.
-fn look_at(s: i32, r: i32, student: &[u8], reference: &[u8], at: usize, records: usize) -> Look
+fn look_at(
+    rt: HostRuntime,
+    s: &File,
+    r: &File,
+    student: &[u8],
+    reference: &[u8],
+    at: usize,
+    records: usize,
+) -> Look
     requires { at ≤ 4_294_967_295 }
     ensures { Progress result }
 {
-    let mut a = io::large_buffer();
-    let got = read_window(s, at, &mut a);
-    if got < 0 {
-        os::fail(student);
-        return Look::Done;
+    let mut a = [0u8; PIECE];
+    match read_window(s, at, &mut a) {
+        Ok(n) => look_beside(rt, r, &a[0..n], reference, at, records),
+        Err(why) => {
+            files::fail(&mut rt.stderr(), student, why);
+            Look::Done
+        }
     }
-    let n = io::count(got, &a);
-    let mut b = io::large_buffer();
-    let came = read_window(r, at, &mut b);
-    if came < 0 {
-        os::fail(reference);
-        return Look::Done;
+}
+
+// The same, beside the student's window.
+fn look_beside(
+    rt: HostRuntime,
+    r: &File,
+    student: &[u8],
+    reference: &[u8],
+    at: usize,
+    records: usize,
+) -> Look
+    requires at_bound { at ≤ 4_294_967_295 }
+    requires window_bound { length student.now ≤ 65_536 }
+    ensures { Progress result }
+{
+    let mut b = [0u8; PIECE];
+    match read_window(r, at, &mut b) {
+        Ok(m) => compare_windows(rt, student, &b[0..m], at, records),
+        Err(why) => {
+            files::fail(&mut rt.stderr(), reference, why);
+            Look::Done
+        }
     }
-    let m = io::count(came, &b);
-    compare_windows(&a[0..n], &b[0..m], at, records)
 }
 
 // Where no equal record stands at their start, what is found there is what is found of the two recordings.
-fn compare_windows(student: &[u8], reference: &[u8], at: usize, records: usize) -> Look
+fn compare_windows(
+    rt: HostRuntime,
+    student: &[u8],
+    reference: &[u8],
+    at: usize,
+    records: usize,
+) -> Look
     requires { length student.now ≤ 65_536 }
     ensures { Progress result }
 {
@@ -126,26 +156,23 @@ fn compare_windows(student: &[u8], reference: &[u8], at: usize, records: usize) 
     if 0 < bytes {
         return Look::On(bytes, more);
     }
-    sheet_parted::print_parted(found, student, reference, at, records);
+    let _ = sheet_parted::print_parted(&mut rt.stdout(), found, student, reference, at, records);
     Look::Done
 }
 
-// Reads from an offset on until the room is full or the file ends, and answers how many bytes that were, or -1 where a read fails.
-fn read_window(fd: i32, from: usize, room: &mut [u8]) -> isize
+// Reads from an offset on until the room is full or the file ends, and answers how many bytes that were, or why a read fails.
+fn read_window(file: &File, from: usize, room: &mut [u8]) -> io::Result<usize>
     requires from_bound { from ≤ 4_294_967_295 }
     requires room_len_bound { length room.old ≤ 65_536 }
+    ensures { IfOk result (λ n. n ≤ length room.new) }
 {
     let mut at: usize = 0;
     while at < room.len() {
-        let got = libc::pread(fd, &mut room[at..], (from + at) as i64);
-        if got < 0 {
-            return -1;
-        }
-        let n = io::count(got, &room[at..]);
+        let n = file.read_at(&mut room[at..], (from + at) as u64)?;
         if n == 0 {
-            return at as isize;
+            return Ok(at);
         }
         at += n;
     }
-    at as isize
+    Ok(at)
 }

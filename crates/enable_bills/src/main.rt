@@ -21,110 +21,115 @@ struct Enabling {
     closed: bool,
 }
 
-fn main() {
+fn main(rt: HostRuntime) {
     let types = [
-        argument(1),
-        argument(2),
-        argument(3),
-        argument(4),
-        argument(5),
-        argument(6),
+        argument(rt, 1),
+        argument(rt, 2),
+        argument(rt, 3),
+        argument(rt, 4),
+        argument(rt, 5),
+        argument(rt, 6),
     ];
-    run(&types);
+    run(rt, &types);
 }
 
 // A byte in two hex digits; 0 where there is no such argument.
-fn argument(i: usize) -> u8 {
+fn argument(rt: HostRuntime, i: usize) -> u8 {
     let mut word = [0u8; 8];
-    let n = os::arg(i, &mut word);
-    sheet::byte(&word[..n], 0)
+    match files::arg(&rt, i, &mut word) {
+        Ok(n) => sheet::byte(&word[..n], 0),
+        Err(_) => 0,
+    }
 }
 
-fn run(types: &[u8; 6]) {
+fn run(rt: HostRuntime, types: &[u8; 6]) {
     let mut now = Enabling {
         session: Session::fresh(),
         sent: false,
         closed: false,
     };
-    let mut turns: u64 = filter::TURNS;
-    while 0 < turns {
-        let Event::Whole(x) = filter::next() else {
+    for _ in 0..filter::TURNS {
+        let Event::Whole(x) = filter::next(&mut rt.stdin()) else {
             return;
         };
-        let next = event(now, x, types);
+        let next = event(rt, now, x, types);
         now = next;
         if now.closed {
             return;
         }
-        print_text(b"done\n");
-        turns -= 1;
+        say(rt, b"done\n");
     }
 }
 
-fn event(was: Enabling, x: Record, types: &[u8; 6]) -> Enabling {
+// A line. A write that fails ends nothing here: whoever reads has gone, and the input ends.
+fn say(rt: HostRuntime, line: &[u8]) {
+    let _ = print_text(&mut rt.stdout(), line);
+}
+
+fn event(rt: HostRuntime, was: Enabling, x: Record, types: &[u8; 6]) -> Enabling {
     let mut room = [0u8; 255];
     let session = was.session;
     match x {
         Record::Tick(ms) => {
             let outcome = validator::tick(session, ms, &mut room);
-            let after = left(was.sent, outcome, &room);
+            let after = left(rt, was.sent, outcome, &room);
             if after.sent {
                 return after;
             }
-            asked(after, types)
+            asked(rt, after, types)
         }
         Record::ValidatorByte(b) => {
             let outcome = validator::byte(session, b, &mut room);
-            left(was.sent, outcome, &room)
+            left(rt, was.sent, outcome, &room)
         }
         _ => was,
     }
 }
 
 // The command, which is taken once the line has been quiet for 20 ms.
-fn asked(was: Enabling, types: &[u8; 6]) -> Enabling {
+fn asked(rt: HostRuntime, was: Enabling, types: &[u8; 6]) -> Enabling {
     let mut room = [0u8; 255];
     let session = was.session;
     let outcome = validator::request(session, ENABLE, types, &mut room);
     let reply = outcome.reply;
     match reply {
         Reply::NotDone(_) => was,
-        Reply::Done { put: _, closing: _ } => left(true, outcome, &room),
+        Reply::Done { put: _, closing: _ } => left(rt, true, outcome, &room),
     }
 }
 
 // What a call leaves: its bytes are to be sent, and its closing is told.
-fn left(sent: bool, outcome: Outcome, room: &[u8; 255]) -> Enabling {
+fn left(rt: HostRuntime, sent: bool, outcome: Outcome, room: &[u8; 255]) -> Enabling {
     let session = outcome.session;
     let reply = outcome.reply;
     Enabling {
         session,
         sent,
-        closed: has_closed(reply, room),
+        closed: has_closed(rt, reply, room),
     }
 }
 
-fn has_closed(reply: Reply, room: &[u8]) -> bool {
+fn has_closed(rt: HostRuntime, reply: Reply, room: &[u8]) -> bool {
     match reply {
         Reply::NotDone(_) => false,
         Reply::Done { put, closing } => {
-            filter::send(b"send validator", put, room);
-            has_told(closing)
+            let _ = filter::send(&mut rt.stdout(), b"send validator", put, room);
+            has_told(rt, closing)
         }
     }
 }
 
-fn has_told(closing: Closing) -> bool {
+fn has_told(rt: HostRuntime, closing: Closing) -> bool {
     match closing {
         Closing::Nothing => {
             return false;
         }
-        Closing::Acknowledged => print_text(b"enabled\n"),
-        Closing::NotAcknowledged => print_text(b"not enabled refused\n"),
-        Closing::IllegalCommand => print_text(b"not enabled illegal\n"),
-        Closing::Answered(_) => print_text(b"not enabled answered\n"),
-        Closing::Damaged => print_text(b"not enabled damaged\n"),
-        Closing::Silent => print_text(b"not enabled silent\n"),
+        Closing::Acknowledged => say(rt, b"enabled\n"),
+        Closing::NotAcknowledged => say(rt, b"not enabled refused\n"),
+        Closing::IllegalCommand => say(rt, b"not enabled illegal\n"),
+        Closing::Answered(_) => say(rt, b"not enabled answered\n"),
+        Closing::Damaged => say(rt, b"not enabled damaged\n"),
+        Closing::Silent => say(rt, b"not enabled silent\n"),
     }
     true
 }

@@ -3,87 +3,110 @@ ghost use Rattle.grading_rules.specs.Promises.{Counted};
 
 use crate::lines;
 use grading_rules::{Desk, Replaying};
-use libc::{SEEK_SET, STDERR_FILENO};
 use recording::{Fault, Reader, Verdict};
 use serving::failed;
+use std::fs::File;
+use std::io;
+use std::io::{Seek, SeekFrom, Write};
+
+// The most bytes that are read at once.
+const PIECE: usize = 65_536;
+
+// The most bytes of an argument.
+const WORD: usize = 4_096;
 
 // By the second argument, if there is one.
-pub(crate) fn with(path: &[u8]) {
-    if os::arg_count() < 3 {
-        fresh(path, serving::QUIET);
+pub(crate) fn with(rt: HostRuntime, path: &[u8]) {
+    if files::arg_count(&rt) < 3 {
+        fresh(rt, path, serving::QUIET);
         return;
     }
-    let mut room = io::buffer();
-    let n = os::arg(2, &mut room);
-    if same(&room[..n], b"--switched-on") {
-        fresh(path, 0);
+    let mut room = [0u8; WORD];
+    match files::arg(&rt, 2, &mut room) {
+        Ok(n) => told(rt, path, &room[..n]),
+        Err(_) => lines::usage(rt),
+    }
+}
+
+// By the word of the second argument.
+fn told(rt: HostRuntime, path: &[u8], word: &[u8]) {
+    if same(word, b"--switched-on") {
+        fresh(rt, path, 0);
         return;
     }
-    if same(&room[..n], b"--resume") {
-        resume(path);
+    if same(word, b"--resume") {
+        resume(rt, path);
         return;
     }
-    lines::usage();
+    lines::usage(rt);
 }
 
 fn same(a: &[u8], b: &[u8]) -> bool {
-    if a.len() != b.len() {
-        return false;
-    }
-    let mut i: usize = 0;
-    while i < a.len() {
-        if i < b.len() {
-            if a[i] != b[i] {
-                return false;
-            }
-        }
-        i += 1;
-    }
-    true
+    a == b
 }
 
 // A new recording: an old one is never overwritten. No payout is taken before so many milliseconds of quiet.
-fn fresh(path: &[u8], quiet: u32) {
-    let fd = os::create(path);
-    if fd < 0 {
-        not_begun(path);
-        return;
+fn fresh(rt: HostRuntime, path: &[u8], quiet: u32) {
+    match created(rt, path) {
+        Ok(file) => {
+            let mut recording = file;
+            lines::began(rt);
+            let desk = Desk::fresh();
+            serving::run(rt, &mut recording, desk, 0, quiet);
+        }
+        Err(why) => not_begun(rt, path, why),
     }
-    lines::began();
-    let desk = Desk::fresh();
-    serving::run(fd, desk, 0, quiet);
-    libc::close(fd);
+}
+
+// The file, which must not be there yet.
+fn created(rt: HostRuntime, path: &[u8]) -> io::Result<File> {
+    File::options()
+        .write(true)
+        .create_new(true)
+        .open(&rt, files::path_text(path)?)
+}
+
+// The file of a recording that goes on, to be read and written.
+fn opened(rt: HostRuntime, path: &[u8]) -> io::Result<File> {
+    File::options()
+        .read(true)
+        .write(true)
+        .open(&rt, files::path_text(path)?)
 }
 
 // A recording that goes on: it is replayed.
-fn resume(path: &[u8]) {
-    let fd = os::open_update(path);
-    if fd < 0 {
-        not_begun(path);
-        return;
+fn resume(rt: HostRuntime, path: &[u8]) {
+    match opened(rt, path) {
+        Ok(file) => {
+            let mut recording = file;
+            replayed(rt, path, &mut recording);
+        }
+        Err(why) => not_begun(rt, path, why),
     }
-    let mut piece = io::large_buffer();
-    let fed = feeding::fed_from(fd, &mut piece);
-    if fed.failed {
-        not_begun(path);
-        libc::close(fd);
+}
+
+// The recording is read to its end, and then the desk goes on.
+fn replayed(rt: HostRuntime, path: &[u8], file: &mut File) {
+    let mut piece = [0u8; PIECE];
+    let fed = feeding::fed_from(rt, file, &mut piece);
+    if let Some(why) = fed.failed {
+        not_begun(rt, path, why);
         return;
     }
     let replay = fed.replay;
-    go_on(path, fd, replay);
-    libc::close(fd);
+    go_on(rt, path, file, replay);
 }
 
 // The desk goes on where its whole records end.
-fn go_on(path: &[u8], fd: i32, replay: Replaying)
+fn go_on(rt: HostRuntime, path: &[u8], file: &mut File, replay: Replaying)
     requires { Counted replay }
 {
     let reader = replay.reader;
     let whole = live::whole_bytes(reader, replay.fed);
-    if made_ready(path, fd, reader, whole, replay.fed) {
+    if made_ready(rt, path, file, reader, whole, replay.fed) {
         let desk = replay.desk;
-        lines::resumed(desk.records, whole, is_open(desk));
-        serving::run(fd, desk, whole, serving::going_on(desk));
+        lines::resumed(rt, desk.records, whole, is_open(desk));
+        serving::run(rt, file, desk, whole, serving::going_on(desk));
     }
 }
 
@@ -95,13 +118,20 @@ fn is_open(desk: Desk) -> bool {
 }
 
 // A recording without a fault goes on; an unfinished last record is cut off. False where it cannot go on.
-fn made_ready(path: &[u8], fd: i32, reader: Reader, whole: u32, size: u32) -> bool {
+fn made_ready(
+    rt: HostRuntime,
+    path: &[u8],
+    file: &mut File,
+    reader: Reader,
+    whole: u32,
+    size: u32,
+) -> bool {
     match reader.ended() {
-        Verdict::Good => cut_back(path, fd, whole, size),
+        Verdict::Good => cut_back(rt, path, file, whole, size),
         Verdict::Bad(why, at) => match why {
-            Fault::Cut => cut_back(path, fd, whole, size),
+            Fault::Cut => cut_back(rt, path, file, whole, size),
             _ => {
-                bad(path, why, at);
+                bad(rt, path, why, at);
                 false
             }
         },
@@ -109,33 +139,32 @@ fn made_ready(path: &[u8], fd: i32, reader: Reader, whole: u32, size: u32) -> bo
 }
 
 // Cuts the file to its whole records, and goes to its end. False where that fails.
-fn cut_back(path: &[u8], fd: i32, whole: u32, size: u32) -> bool {
+fn cut_back(rt: HostRuntime, path: &[u8], file: &mut File, whole: u32, size: u32) -> bool {
     if whole < size {
-        if libc::ftruncate(fd, whole as i64) != 0 {
-            not_begun(path);
+        if let Err(why) = file.set_len(whole as u64) {
+            not_begun(rt, path, why);
             return false;
         }
-        lines::cut(whole);
+        lines::cut(rt, whole);
     }
-    if libc::lseek(fd, whole as i64, SEEK_SET) == whole as i64 {
-        return true;
+    match file.seek(SeekFrom::Start(whole as u64)) {
+        Ok(_) => true,
+        Err(why) => {
+            not_begun(rt, path, why);
+            false
+        }
     }
-    not_begun(path);
-    false
 }
 
 // A recording with a fault cannot go on.
-fn bad(path: &[u8], why: Fault, at: u64) {
-    io::write_all(STDERR_FILENO, path);
-    io::write_all(STDERR_FILENO, b": bad ");
-    io::print_decimal(STDERR_FILENO, why.number() as u64);
-    io::write_all(STDERR_FILENO, b" at ");
-    io::print_decimal(STDERR_FILENO, at);
-    io::write_all(STDERR_FILENO, b"\n");
-    failed();
+fn bad(rt: HostRuntime, path: &[u8], why: Fault, at: u64) {
+    let number = why.number();
+    let _ = Write::write_all(&mut rt.stderr(), path);
+    let _ = eprintln!(rt; ": bad {number} at {at}");
+    failed(rt);
 }
 
-fn not_begun(path: &[u8]) {
-    os::fail(path);
-    failed();
+fn not_begun(rt: HostRuntime, path: &[u8], why: io::Error) {
+    files::fail(&mut rt.stderr(), path, why);
+    failed(rt);
 }

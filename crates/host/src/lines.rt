@@ -1,27 +1,23 @@
 // The lines that the host says as it begins. A write that fails ends nothing here: whoever reads has gone, and the input ends.
-use libc::STDERR_FILENO;
 use sheet::{print_form, print_text};
 
-pub(crate) fn began() {
-    print_text(b"began\n");
+pub(crate) fn began(rt: HostRuntime) {
+    let _ = print_text(&mut rt.stdout(), b"began\n");
 }
 
-pub(crate) fn cut(bytes: u32) {
-    print_form(b"cut #\n", &[bytes]);
+pub(crate) fn cut(rt: HostRuntime, bytes: u32) {
+    let _ = print_form(&mut rt.stdout(), b"cut #\n", &[bytes]);
 }
 
-pub(crate) fn resumed(records: u32, bytes: u32, open: bool) {
+pub(crate) fn resumed(rt: HostRuntime, records: u32, bytes: u32, open: bool) {
     if open {
-        print_form(b"resumed # # open\n", &[records, bytes]);
+        let _ = print_form(&mut rt.stdout(), b"resumed # # open\n", &[records, bytes]);
         return;
     }
-    print_form(b"resumed # # idle\n", &[records, bytes]);
+    let _ = print_form(&mut rt.stdout(), b"resumed # # idle\n", &[records, bytes]);
 }
 
-pub(crate) fn usage() {
-    io::write_all(
-        STDERR_FILENO,
-        b"usage: host RECORDING [--switched-on | --resume]\n",
-    );
-    serving::failed();
+pub(crate) fn usage(rt: HostRuntime) {
+    let _ = eprintln!(rt; "usage: host RECORDING [--switched-on | --resume]");
+    serving::failed(rt);
 }

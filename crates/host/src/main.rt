@@ -9,16 +9,19 @@
 mod begin;
 mod lines;
 
-fn main() {
-    let mut path = io::buffer();
-    let n = os::arg(1, &mut path);
-    if os::errno() != 0 {
-        lines::usage();
-        return;
+// The most bytes of a path.
+const PATH: usize = 4_096;
+
+fn main(rt: HostRuntime) {
+    let mut path = [0u8; PATH];
+    match files::arg(&rt, 1, &mut path) {
+        Ok(n) => {
+            if n == 0 {
+                lines::usage(rt);
+                return;
+            }
+            begin::with(rt, &path[..n]);
+        }
+        Err(_) => lines::usage(rt),
     }
-    if n == 0 {
-        lines::usage();
-        return;
-    }
-    begin::with(&path[..n]);
 }

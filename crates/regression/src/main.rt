@@ -2,75 +2,78 @@
 // byte. For an argument NAME the recording is NAME.rec and the report NAME.report, both in data/; NAME.txt says what the recording holds and what it shows.
 #![tactic(auto)]
 
-ghost use Rattle.std.specs.Prelude.{◌≤◌, length};
+ghost use Rattle.std.specs.Prelude.{◌≤◌, length, IfSome};
 
 use grading_rules::{Findings, Replaying};
-use libc::{STDERR_FILENO, STDOUT_FILENO};
 use recording::Verdict;
 use refusals::Put;
+use std::io::Write;
 
 // No example has more bytes.
 const RECORDING: usize = 65_536;
 
-fn main() {
-    each(os::arg_count());
+// The most bytes of a path.
+const PATH: usize = 4_096;
+
+fn main(rt: HostRuntime) {
+    each(rt, files::arg_count(&rt));
 }
 
 // Every argument, behind the program's own name.
-fn each(count: usize) {
-    let mut i: usize = 1;
-    while i < count {
-        named(i);
-        i += 1;
+fn each(rt: HostRuntime, count: usize) {
+    for i in 1..count {
+        named(rt, i);
     }
 }
 
 // The example that an argument names.
-fn named(i: usize) {
-    let mut name = io::buffer();
-    let n = os::arg(i, &mut name);
-    example(&name[..n]);
+fn named(rt: HostRuntime, i: usize) {
+    let mut name = [0u8; PATH];
+    match files::arg(&rt, i, &mut name) {
+        Ok(n) => example(rt, &name[..n]),
+        Err(_) => example(rt, b""),
+    }
 }
 
-fn example(name: &[u8]) {
+fn example(rt: HostRuntime, name: &[u8]) {
     let mut recording = [0u8; RECORDING];
     let mut wanted = [0u8; 4096];
-    let got = read(name, b".rec", &mut recording);
-    let must = read(name, b".report", &mut wanted);
-    if got < 0 {
+    let got = read(rt, name, b".rec", &mut recording);
+    let must = read(rt, name, b".report", &mut wanted);
+    let Some(n) = got else {
         return;
-    }
-    if must < 0 {
+    };
+    let Some(k) = must else {
         return;
-    }
-    let n = io::count(got, &recording);
-    let k = io::count(must, &wanted);
-    hold(name, &recording[..n], &wanted[..k]);
+    };
+    hold(rt, name, &recording[..n], &wanted[..k]);
 }
 
 // Reads the file of an example with that ending, and says on standard error where it cannot.
-fn read(name: &[u8], ending: &[u8], room: &mut [u8]) -> isize {
-    let mut path = io::buffer();
+fn read(rt: HostRuntime, name: &[u8], ending: &[u8], room: &mut [u8]) -> Option<usize>
+    ensures { IfSome result (λ n. n ≤ length room.new) }
+{
+    let mut path = [0u8; PATH];
     let a = put(name, &mut path, 0);
     let n = put(ending, &mut path, a);
-    let got = files::read_file(front(&path, n), room);
-    if got < 0 {
-        os::fail(front(&path, n));
+    match files::read_file(&rt, front(&path, n), room) {
+        Ok(got) => Some(got),
+        Err(why) => {
+            files::fail(&mut rt.stderr(), front(&path, n), why);
+            None
+        }
     }
-    got
 }
 
 // Adds bytes behind those before a place, as far as there is room, and says where they end.
 fn put(bytes: &[u8], text: &mut [u8], at: usize) -> usize {
     let mut end = at;
-    let mut i: usize = 0;
-    while i < bytes.len() {
+    for b in bytes {
         if end >= text.len() {
             return end;
         }
-        text[end] = bytes[i];
+        text[end] = *b;
         end += 1;
-        i += 1;
     }
     end
 }
@@ -84,30 +87,27 @@ fn front<'a>(text: &'a [u8], n: usize) -> &'a [u8] {
 }
 
 // Holds the report of a recording to the one that it must give, and what is judged of the recording to that report.
-fn hold(name: &[u8], recording: &[u8], wanted: &[u8]) {
+fn hold(rt: HostRuntime, name: &[u8], recording: &[u8], wanted: &[u8]) {
     if is_bad(recording) != is_same(front(wanted, 4), b"bad ") {
-        io::write_all(STDOUT_FILENO, name);
-        io::write_all(STDOUT_FILENO, b": NOT judged as it must be\n");
+        say(rt, name, b": NOT judged as it must be\n");
     }
     let mut room = [0u8; report::LONGEST];
     match report::report(recording, &mut room) {
-        Put::Bytes(n) => say(name, front(&room, n), wanted),
+        Put::Bytes(n) => judged(rt, name, front(&room, n), wanted),
         Put::Refused(_) => {
-            io::write_all(STDERR_FILENO, b"no room for the report\n");
+            let _ = eprintln!(rt; "no room for the report");
         }
     }
-    hold_cut(name, recording, wanted);
-    hold_found(name, byte_by_byte(recording), wanted);
+    hold_cut(rt, name, recording, wanted);
+    hold_found(rt, name, byte_by_byte(recording), wanted);
 }
 
 // The same of the recording cut in two at every place, before its first byte and behind its last too.
-fn hold_cut(name: &[u8], recording: &[u8], wanted: &[u8]) {
-    let mut at: usize = 0;
-    while at < recording.len() {
-        hold_found(name, in_two(recording, at), wanted);
-        at += 1;
+fn hold_cut(rt: HostRuntime, name: &[u8], recording: &[u8], wanted: &[u8]) {
+    for at in 0..recording.len() {
+        hold_found(rt, name, in_two(recording, at), wanted);
     }
-    hold_found(name, in_two(recording, at), wanted);
+    hold_found(rt, name, in_two(recording, recording.len()), wanted);
 }
 
 // What is found in a recording that is fed in two pieces.
@@ -122,28 +122,25 @@ fn in_two(recording: &[u8], at: usize) -> Findings
 // What is found in a recording that is fed byte by byte, with an empty piece behind each.
 fn byte_by_byte(recording: &[u8]) -> Findings {
     let mut replay = Replaying::fresh();
-    let mut i: usize = 0;
-    while i < recording.len() {
+    for i in 0..recording.len() {
         let one = grading::feed(replay, &recording[i..i + 1]);
         let next = grading::feed(one, b"");
         replay = next;
-        i += 1;
     }
     grading::ended(replay)
 }
 
 // Says so where the report of what was found is another one.
-fn hold_found(name: &[u8], found: Findings, wanted: &[u8]) {
+fn hold_found(rt: HostRuntime, name: &[u8], found: Findings, wanted: &[u8]) {
     let mut room = [0u8; report::LONGEST];
     match report::write_report(found, &mut room) {
         Put::Bytes(n) => {
             if !is_same(front(&room, n), wanted) {
-                io::write_all(STDOUT_FILENO, name);
-                io::write_all(STDOUT_FILENO, b": NOT the same when it is cut\n");
+                say(rt, name, b": NOT the same when it is cut\n");
             }
         }
         Put::Refused(_) => {
-            io::write_all(STDERR_FILENO, b"no room for the report\n");
+            let _ = eprintln!(rt; "no room for the report");
         }
     }
 }
@@ -155,29 +152,21 @@ fn is_bad(recording: &[u8]) -> bool {
     }
 }
 
-fn say(name: &[u8], report: &[u8], wanted: &[u8]) {
-    io::write_all(STDOUT_FILENO, name);
+fn judged(rt: HostRuntime, name: &[u8], report: &[u8], wanted: &[u8]) {
     if is_same(report, wanted) {
-        io::write_all(STDOUT_FILENO, b": as it must be\n");
+        say(rt, name, b": as it must be\n");
         return;
     }
-    io::write_all(STDOUT_FILENO, b": NOT as it must be, but\n");
-    io::write_all(STDOUT_FILENO, report);
+    say(rt, name, b": NOT as it must be, but\n");
+    let _ = Write::write_all(&mut rt.stdout(), report);
+}
+
+// A line about an example. Nothing is said of a write that fails: the run is held to what it must write.
+fn say(rt: HostRuntime, name: &[u8], line: &[u8]) {
+    let _ = Write::write_all(&mut rt.stdout(), name);
+    let _ = Write::write_all(&mut rt.stdout(), line);
 }
 
 fn is_same(a: &[u8], b: &[u8]) -> bool {
-    if a.len() != b.len() {
-        return false;
-    }
-    let mut i: usize = 0;
-    while i < a.len() {
-        if i >= b.len() {
-            return false;
-        }
-        if a[i] != b[i] {
-            return false;
-        }
-        i += 1;
-    }
-    true
+    a == b
 }

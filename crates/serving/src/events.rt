@@ -3,9 +3,11 @@ use crate::{guard, lines};
 use dispenser_books::pays;
 use filter::Event;
 use grading_rules::Desk;
-use libc::STDERR_FILENO;
 use live_rules::{Entered, Entry};
 use recording::{Reader, Record};
+use std::fs::File;
+use std::io;
+use std::io::Write;
 
 // A desk at work: the bytes of its recording, what is left of the quiet of a fresh start, and whether it can go on.
 #[derive(Clone, Copy)]
@@ -17,75 +19,79 @@ struct Work {
 }
 
 // Serves a desk whose recording has so many bytes, until standard input ends, or it cannot go on. No payout is taken before so many milliseconds of quiet.
-pub fn run(fd: i32, desk: Desk, written: u32, quiet: u32) {
+pub fn run(rt: HostRuntime, file: &mut File, desk: Desk, written: u32, quiet: u32) {
     let work = Work {
         desk,
         written,
         quiet,
         going: true,
     };
-    each(fd, work);
+    each(rt, file, work);
 }
 
 // Every event.
-fn each(fd: i32, work: Work) {
+fn each(rt: HostRuntime, file: &mut File, work: Work) {
     let mut now = work;
-    let mut turns: u64 = filter::TURNS;
-    while 0 < turns {
-        let event = filter::next();
+    for _ in 0..filter::TURNS {
+        let event = filter::next(&mut rt.stdin());
         let Event::Whole(x) = event else {
-            ended(event);
+            ended(rt, event);
             return;
         };
-        let next = taken(fd, now, x);
+        let next = taken(rt, file, now, x);
         now = next;
         if !now.going {
-            lines::failed();
+            lines::failed(rt);
             return;
         }
-        lines::done();
-        turns -= 1;
+        lines::done(rt);
     }
 }
 
 // No further event: the input has ended, is bad or cannot be read.
-fn ended(event: Event) {
+fn ended(rt: HostRuntime, event: Event) {
     match event {
         Event::Bad(why) => {
-            io::write_all(STDERR_FILENO, b"standard input: bad ");
-            io::print_decimal(STDERR_FILENO, why.number() as u64);
-            io::write_all(STDERR_FILENO, b"\n");
-            lines::failed();
+            let number = why.number();
+            let _ = eprintln!(rt; "standard input: bad {number}");
+            lines::failed(rt);
         }
-        Event::Failed => {
-            os::fail(b"standard input");
-            lines::failed();
+        Event::Failed(why) => {
+            files::fail(&mut rt.stderr(), b"standard input", why);
+            lines::failed(rt);
         }
         _ => {}
     }
 }
 
 // An event: an order that comes too early is not written down.
-fn taken(fd: i32, work: Work, x: Record) -> Work {
+fn taken(rt: HostRuntime, file: &mut File, work: Work, x: Record) -> Work {
     if guard::holds(work.quiet, x) {
-        lines::held(work.quiet);
+        lines::held(rt, work.quiet);
         return work;
     }
     let desk = work.desk;
-    entered(fd, desk, work.written, guard::after(work.quiet, x), x)
+    entered(rt, file, desk, work.written, guard::after(work.quiet, x), x)
 }
 
 // A record is entered, at a desk whose recording has so many bytes.
-fn entered(fd: i32, desk: Desk, written: u32, quiet: u32, x: Record) -> Work {
+fn entered(
+    rt: HostRuntime,
+    file: &mut File,
+    desk: Desk,
+    written: u32,
+    quiet: u32,
+    x: Record,
+) -> Work {
     let mut out = [0u8; 16];
     let mut room = [0u8; 16];
     let mut room255 = [0u8; 255];
     let left = live::enter(desk, written, x, &mut out, &mut room, &mut room255);
-    let put = told(fd, left, written, &out, &room, &room255);
+    let put = told(rt, file, left, written, &out, &room, &room255);
     let lived = left.lived;
     let next = lived.desk;
     if 0 < put {
-        lines::said(desk, x, lived, &room, &room255);
+        lines::said(rt, desk, x, lived, &room, &room255);
     }
     Work {
         desk: next,
@@ -106,7 +112,8 @@ fn longer(written: u32, put: usize) -> u32 {
 
 // Writes down what was entered, then says what is to be sent. How many bytes were written: none where there are none, or that fails.
 fn told(
-    fd: i32,
+    rt: HostRuntime,
+    file: &mut File,
     entered: Entered,
     written: u32,
     out: &[u8; 16],
@@ -118,10 +125,10 @@ fn told(
     let payer = lived.dispenser;
     let taker = lived.validator;
     let paying = is_paying(payer, room);
-    let put = kept(fd, entry, out, written, paying);
+    let put = kept(rt, file, entry, out, written, paying);
     if 0 < put {
-        lines::to_dispenser(payer, paying, room);
-        lines::to_validator(taker, room255);
+        lines::to_dispenser(rt, payer, paying, room);
+        lines::to_validator(rt, taker, room255);
     }
     put
 }
@@ -140,42 +147,57 @@ fn is_paying(reply: dispenser_rules::Reply, room: &[u8; 16]) -> bool {
 }
 
 // Writes the record's bytes, and says how many: none where there are none, or that fails.
-fn kept(fd: i32, entry: Entry, out: &[u8; 16], written: u32, paying: bool) -> usize {
+fn kept(
+    rt: HostRuntime,
+    file: &mut File,
+    entry: Entry,
+    out: &[u8; 16],
+    written: u32,
+    paying: bool,
+) -> usize {
     match entry {
         Entry::Bytes(n) => {
-            if write_down(fd, out, n, written, paying) {
+            if write_down(rt, file, out, n, written, paying) {
                 return n;
             }
             0
         }
         Entry::Refused(_) => {
-            io::write_all(STDERR_FILENO, b"a record that no recording can hold\n");
+            let _ = eprintln!(rt; "a record that no recording can hold");
             0
         }
         Entry::Full => {
-            io::write_all(STDERR_FILENO, b"the recording is full: begin a new one\n");
+            let _ = eprintln!(rt; "the recording is full: begin a new one");
             0
         }
     }
 }
 
 // Writes the record, onto the disk before a frame that pays. Where that fails, the file is cut back to the records before, and the answer is false.
-fn write_down(fd: i32, out: &[u8], n: usize, written: u32, paying: bool) -> bool {
+fn write_down(
+    rt: HostRuntime,
+    file: &mut File,
+    out: &[u8; 16],
+    n: usize,
+    written: u32,
+    paying: bool,
+) -> bool {
     let end = sheet::at_most(n, out);
-    if io::write_all(fd, &out[0..end]) {
-        if synced(fd, paying) {
-            return true;
+    match kept_safe(file, &out[0..end], paying) {
+        Ok(()) => true,
+        Err(why) => {
+            files::fail(&mut rt.stderr(), b"the recording", why);
+            let _ = file.set_len(written as u64);
+            false
         }
     }
-    os::fail(b"the recording");
-    libc::ftruncate(fd, written as i64);
-    false
 }
 
 // Onto the disk, where the record pays.
-fn synced(fd: i32, paying: bool) -> bool {
+fn kept_safe(file: &mut File, bytes: &[u8], paying: bool) -> io::Result<()> {
+    file.write_all(bytes)?;
     if paying {
-        return libc::fdatasync(fd) == 0;
+        file.sync_data()?;
     }
-    true
+    Ok(())
 }

@@ -4,58 +4,73 @@ use live_rules::Lived;
 use recording::Record;
 use refusals::Declined;
 use sheet::{print_form, print_text};
+use std::io;
+use std::io::Write;
 
-pub(crate) fn done() {
-    print_text(b"done\n");
+pub(crate) fn done(rt: HostRuntime) {
+    let _ = print_text(&mut rt.stdout(), b"done\n");
 }
 
-pub fn failed() {
-    print_text(b"failed\n");
+pub fn failed(rt: HostRuntime) {
+    let _ = print_text(&mut rt.stdout(), b"failed\n");
 }
 
 // An order that pays, and comes too early.
-pub(crate) fn held(left: u32) {
-    print_form(
+pub(crate) fn held(rt: HostRuntime, left: u32) {
+    let _ = print_form(
+        &mut rt.stdout(),
         b"refused: no payout before 95,200 ms of quiet after a fresh start; # ms are left\n",
         &[left],
     );
 }
 
 // What the dispenser session answered: the bytes to send.
-pub(crate) fn to_dispenser(reply: dispenser_rules::Reply, paying: bool, room: &[u8; 16]) {
+pub(crate) fn to_dispenser(
+    rt: HostRuntime,
+    reply: dispenser_rules::Reply,
+    paying: bool,
+    room: &[u8; 16],
+) {
     match reply {
-        dispenser_rules::Reply::NotDone(why) => declined(why),
+        dispenser_rules::Reply::NotDone(why) => declined(rt, why),
         dispenser_rules::Reply::Done { put, closing: _ } => {
             if paying {
-                filter::send(b"send dispenser paying", put, room);
+                let _ = filter::send(&mut rt.stdout(), b"send dispenser paying", put, room);
                 return;
             }
-            filter::send(b"send dispenser", put, room);
+            let _ = filter::send(&mut rt.stdout(), b"send dispenser", put, room);
         }
     }
 }
 
-pub(crate) fn to_validator(reply: validator_rules::Reply, room: &[u8; 255]) {
+pub(crate) fn to_validator(rt: HostRuntime, reply: validator_rules::Reply, room: &[u8; 255]) {
     match reply {
-        validator_rules::Reply::NotDone(why) => declined(why),
-        validator_rules::Reply::Done { put, closing: _ } => filter::send(
-            b"send validator",
-            put,
-            room,
-        ),
+        validator_rules::Reply::NotDone(why) => declined(rt, why),
+        validator_rules::Reply::Done { put, closing: _ } => {
+            let _ = filter::send(&mut rt.stdout(), b"send validator", put, room);
+        }
     }
 }
 
 // Number 5: the recording has taken all the commands that it can.
-fn declined(why: Declined) {
+fn declined(rt: HostRuntime, why: Declined) {
     match why {
-        Declined::Spent => print_text(b"renew\n"),
+        Declined::Spent => {
+            let _ = print_text(&mut rt.stdout(), b"renew\n");
+        }
         _ => {}
     }
 }
 
 // What the sessions did with a record, in the words of `explain`: sent, refused, closed, booked, waited. Where they did nothing, nothing is said.
-pub(crate) fn said(was: Desk, x: Record, lived: Lived, room: &[u8; 16], room255: &[u8; 255]) {
+pub(crate) fn said(
+    rt: HostRuntime,
+    was: Desk,
+    x: Record,
+    lived: Lived,
+    room: &[u8; 16],
+    room255: &[u8; 255],
+) {
     let is = lived.desk;
     let payer = lived.dispenser;
     let taker = lived.validator;
@@ -72,18 +87,23 @@ pub(crate) fn said(was: Desk, x: Record, lived: Lived, room: &[u8; 16], room255:
     );
     let end = sheet::at_most(told.deeds, &line);
     if 0 < end {
-        print_text(b"said ");
-        record(x);
-        print_text(b" |");
-        print_text(&line[1..end]);
-        print_text(b"\n");
+        let _ = line_of(&mut rt.stdout(), x, &line[1..end]);
     }
 }
 
+// A record, and what was done with it.
+fn line_of<W: Write>(out: &mut W, x: Record, deeds: &[u8]) -> io::Result<()> {
+    print_text(out, b"said ")?;
+    record(out, x)?;
+    print_text(out, b" |")?;
+    print_text(out, deeds)?;
+    print_text(out, b"\n")
+}
+
 // The words of a record.
-fn record(x: Record) {
+fn record<W: Write>(out: &mut W, x: Record) -> io::Result<()> {
     let mut room = [0u8; 261];
     let n = text::write(&mut room, 0, spelling::said(x));
     let end = sheet::at_most(n, &room);
-    print_text(&room[0..end]);
+    print_text(out, &room[0..end])
 }

@@ -9,12 +9,7 @@ use std::io::Write;
 use text::Said;
 
 // All of it, with the bytes in which a fault shows: so many of those lent.
-pub fn ending<W: Write>(
-    out: &mut W,
-    found: Findings,
-    bytes: &[u8],
-    held: usize,
-) -> io::Result<()> {
+pub fn ending<W: Write>(out: &mut W, found: Findings, bytes: &[u8], held: usize) -> io::Result<()> {
     let account = found.account;
     let all = account.requests;
     let ending = found.ending;
@@ -36,13 +31,7 @@ fn heading<W: Write>(out: &mut W, sentence: usize) -> io::Result<()> {
     print(out, b"\n", 1)
 }
 
-fn fault<W: Write>(
-    out: &mut W,
-    why: Fault,
-    at: u32,
-    bytes: &[u8],
-    held: usize,
-) -> io::Result<()> {
+fn fault<W: Write>(out: &mut W, why: Fault, at: u32, bytes: &[u8], held: usize) -> io::Result<()> {
     let mut room = [0u8; 48];
     say(
         out,
