@@ -10,28 +10,15 @@ mod table_lines;
 fn main(rt: HostRuntime) -> io::Result<()> {
     let mut store = [0u8; 65_536];
     let n = files::read_all(&mut rt.stdin(), &mut store)?;
-    each(&mut rt.stdout(), &store[..n])
-}
-
-// Every line of a sheet, in turn.
-fn each<W: Write>(out: &mut W, all: &[u8]) -> io::Result<()> {
-    let mut at: usize = 0;
-    while at < all.len() {
-        let end = sheet::line_end(all, at);
-        one(out, &all[at..end])?;
-        at = end;
-    }
-    Ok(())
+    let mut out = rt.stdout();
+    sheet::each_line(&store[..n], |line| one(&mut out, line))
 }
 
 // One line, by its verb.
 fn one<W: Write>(out: &mut W, line: &[u8]) -> io::Result<()> {
-    let verb = sheet::letter(line, 0);
-    if verb == b'w' {
-        return table_lines::word(out, line);
+    match sheet::letter(line, 0) {
+        b'w' => table_lines::word(out, line),
+        b't' => table_lines::table(out, line),
+        _ => sheet::print_text(out, line),
     }
-    if verb == b't' {
-        return table_lines::table(out, line);
-    }
-    sheet::print_text(out, line)
 }

@@ -5,7 +5,8 @@
 //
 // A word: what it says, and what so many bills of its type are worth. A table: the body behind the colon is read into a table whose bytes are all 5Ah, so that it shows
 // what a reading leaves; then the table is written into a room of the size that the line gives, and its words are told, but for those of no bill.
-use bill_table::{Letters, Meaning, Total, Value, Word};
+use bill_table::{Letters, Meaning, Value, Word};
+use refusals::Refusal;
 use std::io;
 use std::io::Write;
 
@@ -13,7 +14,7 @@ use std::io::Write;
 const BEFORE: u8 = 0x5A;
 
 pub(crate) fn word<W: Write>(out: &mut W, line: &[u8]) -> io::Result<()> {
-    print_line(out, line)?;
+    sheet::print_whole_line(out, line)?;
     let word = Word {
         first: sheet::byte(line, 1),
         letters: Letters(
@@ -30,11 +31,6 @@ pub(crate) fn word<W: Write>(out: &mut W, line: &[u8]) -> io::Result<()> {
     sheet::print_text(out, b"\n")
 }
 
-fn print_line<W: Write>(out: &mut W, line: &[u8]) -> io::Result<()> {
-    sheet::print_text(out, b"  ")?;
-    sheet::print_text(out, line)
-}
-
 fn print_meaning<W: Write>(out: &mut W, meaning: Meaning) -> io::Result<()> {
     match meaning {
         Meaning::NoBill => sheet::print_text(out, b"no such bill"),
@@ -46,32 +42,29 @@ fn print_meaning<W: Write>(out: &mut W, meaning: Meaning) -> io::Result<()> {
     }
 }
 
-fn print_total<W: Write>(out: &mut W, total: Total) -> io::Result<()> {
+fn print_total<W: Write>(out: &mut W, total: Result<Option<Value>, Refusal>) -> io::Result<()> {
     match total {
-        Total::NoValue => sheet::print_text(out, b"no total"),
-        Total::Sum(value) => {
+        Ok(None) => sheet::print_text(out, b"no total"),
+        Ok(Some(value)) => {
             sheet::print_text(out, b"total ")?;
             print_value(out, value)
         }
-        Total::Refused(why) => sheet::print_form(out, b"total refused #", &[why.number() as u32]),
+        Err(why) => sheet::print_form(out, b"total refused #", &[why.number() as u32]),
     }
 }
 
 // The whole number, the letters, the decimals.
 fn print_value<W: Write>(out: &mut W, value: Value) -> io::Result<()> {
     let letters = value.letters;
-    write!(out, "{}", value.whole)?;
-    sheet::print_text(out, b" ")?;
+    write!(out, "{} ", value.whole)?;
     sheet::print_text(out, &[letters.0, letters.1, letters.2])?;
-    sheet::print_text(out, b" ")?;
-    write!(out, "{}", value.decimals)
+    write!(out, " {}", value.decimals)
 }
 
 pub(crate) fn table<W: Write>(out: &mut W, line: &[u8]) -> io::Result<()> {
-    print_line(out, line)?;
-    let mut store = sheet::long_room();
-    let n = sheet::frame(line, &mut store);
-    let end = sheet::at_most(n, &store);
+    sheet::print_whole_line(out, line)?;
+    let mut store = sheet::fresh_room::<{ sheet::LONG }>();
+    let end = sheet::frame(line, &mut store);
     let mut table = [BEFORE; 120];
     if bill_table::read(&store[0..end], &mut table) {
         sheet::print_text(out, b"    taken")?;
@@ -84,7 +77,7 @@ pub(crate) fn table<W: Write>(out: &mut W, line: &[u8]) -> io::Result<()> {
 
 // The table written into a room of that size.
 fn print_written<W: Write>(out: &mut W, table: &[u8; 120], size: u32) -> io::Result<()> {
-    let mut lent = sheet::long_room();
+    let mut lent = sheet::fresh_room::<{ sheet::LONG }>();
     written_in(out, table, size, &mut lent)
 }
 
@@ -103,38 +96,31 @@ fn written_in<W: Write>(
 // The words but for those of no bill.
 fn print_words<W: Write>(out: &mut W, table: &[u8; 120]) -> io::Result<()> {
     sheet::print_text(out, b"    words:")?;
-    let mut told: usize = 0;
-    let mut bill: usize = 0;
-    while bill < 24 {
-        told = print_word(
+    let mut told = false;
+    for bill in 0..24 {
+        told |= print_word(
             out,
             bill,
             told,
             bill_table::meaning_of(bill_table::word_at(table, bill)),
         )?;
-        bill += 1;
     }
     sheet::print_text(out, b"\n")
 }
 
-// How many words have been told then: 0, or 1 for any.
+// Says whether the word was told. Behind one that was, a semicolon stands first.
 fn print_word<W: Write>(
     out: &mut W,
     bill: usize,
-    told: usize,
+    told: bool,
     meaning: Meaning,
-) -> io::Result<usize> {
-    match meaning {
-        Meaning::NoBill => Ok(told),
-        _ => {
-            if 0 < told {
-                sheet::print_text(out, b";")?;
-            }
-            sheet::print_text(out, b" ")?;
-            sheet::print_number(out, bill)?;
-            sheet::print_text(out, b" ")?;
-            print_meaning(out, meaning)?;
-            Ok(1)
-        }
+) -> io::Result<bool> {
+    if let Meaning::NoBill = meaning {
+        return Ok(false);
     }
+    sheet::print_text(out, if told { b"; " } else { b" " })?;
+    sheet::print_number(out, bill)?;
+    sheet::print_text(out, b" ")?;
+    print_meaning(out, meaning)?;
+    Ok(true)
 }

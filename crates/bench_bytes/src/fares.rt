@@ -1,186 +1,159 @@
-// How a byte fares, as a number: 01's number where what holds it is refused, and else one of these.
-ghost use Rattle.std.specs.Prelude.{◌≤◌};
-
+// How a byte fares.
 use ccnet_class::Class;
-use ccnet_frame::Judged;
-use dispenser_frame_rules::{AnswerRead, CommandRead};
 use error_codes::ErrorClass;
-use refusals::Put;
+use refusals::RANGE;
 use std::io;
 use std::io::Write;
 
-const READ: u8 = 32;
-
-const LISTED: u8 = 33;
-
-const UNLISTED: u8 = 34;
-
-const SENT: u8 = 35;
-
-const STATE: u8 = 36;
-
-const BUSY: u8 = 37;
-
-const REJECTING: u8 = 38;
-
-const FAILING: u8 = 39;
-
-const ESCROW: u8 = 40;
-
-const STACKED: u8 = 41;
-
-const RETURNED: u8 = 42;
-
-// The fares above are taken, those below and 01's numbers are not.
-const ACK: u8 = 43;
-
-const NAK: u8 = 44;
-
-const ILLEGAL: u8 = 45;
-
-const UNKNOWN: u8 = 46;
-
-// What sends and what can be sent differ, or a class carries another byte than the body's last.
-const ODD: u8 = 47;
-
-// No byte: what stands behind the last.
-pub(crate) const PAST: u8 = 48;
-
-// Is this kind a frame of the dispenser's?
-pub(crate) fn is_dispenser(kind: u8) -> bool {
-    if kind == b'c' {
-        return true;
-    }
-    kind == b'a'
+#[derive(Clone, Copy, PartialEq, Eq)]
+pub(crate) enum Fare {
+    // 01's number of what is refused.
+    Refused(u8),
+    Read,
+    Listed,
+    Unlisted,
+    Sent,
+    State,
+    Busy,
+    Rejecting,
+    Failing,
+    Escrow,
+    Stacked,
+    Returned,
+    Ack,
+    Nak,
+    Illegal,
+    Unknown,
+    // What sends and what can be sent differ, or a class carries another byte than the body's last.
+    Odd,
 }
 
 // What is given, by its kind.
-pub(crate) fn of(kind: u8, s: &[u8]) -> u8 {
-    if kind == b'c' {
-        return of_command(s);
+pub(crate) fn of(kind: u8, s: &[u8]) -> Fare {
+    match kind {
+        b'c' => of_command(s),
+        b'a' => of_answer(s),
+        b'f' => of_frame(s),
+        b'r' => of_request(s),
+        _ => of_body(s, last_of(s)),
     }
-    if kind == b'a' {
-        return of_answer(s);
-    }
-    if kind == b'f' {
-        return of_frame(s);
-    }
-    if kind == b'r' {
-        return of_request(s);
-    }
-    of_body(s, last_of(s))
 }
 
-fn of_command(s: &[u8]) -> u8 {
+fn of_command(s: &[u8]) -> Fare {
     match dispenser_frame::read_command(s) {
-        CommandRead::Read {
-            code: _,
-            upper: _,
-            lower: _,
-        } => READ,
-        CommandRead::Refused(why) => why.number(),
+        Ok(_) => Fare::Read,
+        Err(why) => Fare::Refused(why.number()),
     }
 }
 
-fn of_answer(s: &[u8]) -> u8 {
+fn of_answer(s: &[u8]) -> Fare {
     match dispenser_frame::read_answer(s) {
-        AnswerRead::Read { answer: _, class } => of_error(class),
-        AnswerRead::Refused(why) => why.number(),
+        Ok(read) => of_error(read.class),
+        Err(why) => Fare::Refused(why.number()),
     }
 }
 
-fn of_error(class: ErrorClass) -> u8 {
+fn of_error(class: ErrorClass) -> Fare {
     match class {
-        ErrorClass::Unlisted => UNLISTED,
-        _ => LISTED,
+        ErrorClass::Unlisted => Fare::Unlisted,
+        _ => Fare::Listed,
     }
 }
 
-fn of_frame(s: &[u8]) -> u8 {
+fn of_frame(s: &[u8]) -> Fare {
     match ccnet_frame::judge(s) {
-        Judged::Good { address: _ } => READ,
-        Judged::Refused(why) => why.number(),
+        Ok(_) => Fare::Read,
+        Err(why) => Fare::Refused(why.number()),
     }
 }
 
 // Of a code and two counts.
-fn of_request(s: &[u8]) -> u8 {
-    if s.len() < 3 {
-        return ODD;
+fn of_request(s: &[u8]) -> Fare {
+    match s {
+        [code, upper, lower, ..] => requested(*code, *upper as u32, *lower as u32),
+        _ => Fare::Odd,
     }
-    requested(s[0], s[1], s[2])
 }
 
 // Is it written, and can it be sent?
-fn requested(code: u8, upper: u8, lower: u8) -> u8 {
-    let fare = written(code, upper as u32, lower as u32);
-    if dispenser_frame::is_sendable(code, upper as u32, lower as u32) {
-        return same(fare, SENT);
-    }
-    same(fare, 2)
+fn requested(code: u8, upper: u32, lower: u32) -> Fare {
+    let wanted = if dispenser_frame::is_sendable(code, upper, lower) {
+        Fare::Sent
+    } else {
+        Fare::Refused(RANGE)
+    };
+    let fare = written(code, upper, lower);
+    if fare == wanted { fare } else { Fare::Odd }
 }
 
-fn written(code: u8, upper: u32, lower: u32) -> u8 {
-    let mut room = sheet::short_room();
+fn written(code: u8, upper: u32, lower: u32) -> Fare {
+    let mut room = sheet::fresh_room::<{ sheet::SHORT }>();
     match dispenser_frame::write_command(code, upper, lower, &mut room) {
-        Put::Bytes(_) => SENT,
-        Put::Refused(why) => why.number(),
+        Ok(_) => Fare::Sent,
+        Err(why) => Fare::Refused(why.number()),
     }
-}
-
-fn same(fare: u8, wanted: u8) -> u8 {
-    if fare == wanted { fare } else { ODD }
 }
 
 // The last byte; 0 where there is none.
 fn last_of(s: &[u8]) -> u8 {
-    let n = s.len();
-    if n == 0 {
-        return 0;
-    }
-    s[n - 1]
+    s.last().copied().unwrap_or(0)
 }
 
 // A class carries the body's last byte. No body by itself is a bill table.
-fn of_body(s: &[u8], last: u8) -> u8 {
+fn of_body(s: &[u8], last: u8) -> Fare {
     match ccnet_class::classify(s) {
-        Class::Ack => ACK,
-        Class::Nak => NAK,
-        Class::Illegal => ILLEGAL,
-        Class::State(b) => carried(STATE, b, last),
-        Class::Busy(b) => carried(BUSY, b, last),
-        Class::Rejecting(b) => carried(REJECTING, b, last),
-        Class::Failing(b) => carried(FAILING, b, last),
-        Class::Escrow(b) => carried(ESCROW, b, last),
-        Class::Stacked(b) => carried(STACKED, b, last),
-        Class::Returned(b) => carried(RETURNED, b, last),
-        Class::Unknown => UNKNOWN,
-        Class::Table => ODD,
+        Class::Ack => Fare::Ack,
+        Class::Nak => Fare::Nak,
+        Class::Illegal => Fare::Illegal,
+        Class::State(b) if b == last => Fare::State,
+        Class::Busy(b) if b == last => Fare::Busy,
+        Class::Rejecting(b) if b == last => Fare::Rejecting,
+        Class::Failing(b) if b == last => Fare::Failing,
+        Class::Escrow(b) if b == last => Fare::Escrow,
+        Class::Stacked(b) if b == last => Fare::Stacked,
+        Class::Returned(b) if b == last => Fare::Returned,
+        Class::Unknown => Fare::Unknown,
+        _ => Fare::Odd,
     }
 }
 
-fn carried(fare: u8, b: u8, last: u8) -> u8 {
-    if b == last { fare } else { ODD }
+// Is the byte taken: read, sent, or part of a listed poll answer?
+pub(crate) fn is_taken(fare: Fare) -> bool {
+    match fare {
+        Fare::Read
+        | Fare::Listed
+        | Fare::Unlisted
+        | Fare::Sent
+        | Fare::State
+        | Fare::Busy
+        | Fare::Rejecting
+        | Fare::Failing
+        | Fare::Escrow
+        | Fare::Stacked
+        | Fare::Returned => true,
+        Fare::Refused(_) | Fare::Ack | Fare::Nak | Fare::Illegal | Fare::Unknown | Fare::Odd =>
+            false,
+    }
 }
 
-// 1 for a byte that is taken: read, sent, or part of a listed poll answer.
-pub(crate) fn taken(fare: u8) -> u32
-    ensures { result ≤ 1 }
-{
-    if fare < READ {
-        return 0;
+pub(crate) fn print<W: Write>(out: &mut W, fare: Fare) -> io::Result<()> {
+    match fare {
+        Fare::Refused(number) => sheet::print_form(out, b" refused #;", &[number as u32]),
+        Fare::Read => sheet::print_text(out, b" read;"),
+        Fare::Listed => sheet::print_text(out, b" read, error listed;"),
+        Fare::Unlisted => sheet::print_text(out, b" read, error unlisted;"),
+        Fare::Sent => sheet::print_text(out, b" sent;"),
+        Fare::State => sheet::print_text(out, b" state;"),
+        Fare::Busy => sheet::print_text(out, b" busy;"),
+        Fare::Rejecting => sheet::print_text(out, b" rejecting;"),
+        Fare::Failing => sheet::print_text(out, b" failing;"),
+        Fare::Escrow => sheet::print_text(out, b" escrow;"),
+        Fare::Stacked => sheet::print_text(out, b" stacked;"),
+        Fare::Returned => sheet::print_text(out, b" returned;"),
+        Fare::Ack => sheet::print_text(out, b" ACK;"),
+        Fare::Nak => sheet::print_text(out, b" NAK;"),
+        Fare::Illegal => sheet::print_text(out, b" illegal command;"),
+        Fare::Unknown => sheet::print_text(out, b" unknown;"),
+        Fare::Odd => sheet::print_text(out, b" AT ODDS;"),
     }
-    if fare < ACK { 1 } else { 0 }
-}
-
-pub(crate) fn print<W: Write>(out: &mut W, fare: u8) -> io::Result<()> {
-    if fare < READ {
-        return sheet::print_form(out, b" refused #;", &[fare as u32]);
-    }
-    sheet::print_one(
-        out,
-        b" read;| read, error listed;| read, error unlisted;| sent;| state;| busy;| rejecting;| failing;| escrow;| stacked;| returned;| ACK;| NAK;| illegal command;| unknown;| AT ODDS;|",
-        (fare - READ) as usize,
-        &[],
-    )
 }

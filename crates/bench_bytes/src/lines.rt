@@ -15,18 +15,13 @@
 ghost use Rattle.std.specs.Prelude.{◌≤◌};
 
 use crate::fares;
+use crate::fares::Fare;
 use std::io;
 use std::io::Write;
 
 // Does a line with this verb try anything?
 pub(crate) fn is_tried(verb: u8) -> bool {
-    if verb == b'e' {
-        return true;
-    }
-    if verb == b't' {
-        return true;
-    }
-    verb == b'c'
+    matches!(verb, b'e' | b't' | b'c')
 }
 
 pub(crate) fn run<W: Write>(
@@ -35,18 +30,16 @@ pub(crate) fn run<W: Write>(
     line: &[u8],
     given: &mut [u8],
 ) -> io::Result<()> {
-    if verb == b'e' {
-        return try_each(
+    match verb {
+        b'e' => try_each(
             out,
             sheet::letter(line, 4),
             sheet::number(line, 3) as usize,
             given,
-        );
+        ),
+        b't' => turn_each(out, given),
+        _ => print_check(out, ccnet_check::check_of(given)),
     }
-    if verb == b't' {
-        return turn_each(out, given);
-    }
-    print_check(out, ccnet_check::check_of(given))
 }
 
 // Low byte first.
@@ -55,42 +48,36 @@ fn print_check<W: Write>(out: &mut W, c: u16) -> io::Result<()> {
     sheet::print_text(out, b"\n")
 }
 
-// Every byte at the place, and the runs of bytes that fare alike. Past the last byte nothing fares as it did.
+// Every byte at the place, and the runs of bytes that fare alike.
 fn try_each<W: Write>(out: &mut W, kind: u8, place: usize, given: &mut [u8]) -> io::Result<()> {
-    let mut taken: u32 = 0;
-    let mut first: u32 = 0;
+    let mut first = 0;
     let mut was = tried(kind, 0, place, given);
-    let mut b: u32 = 0;
-    while b < 256 {
-        taken = taken % 65_536 + fares::taken(was);
-        b += 1;
+    let mut taken = u32::from(fares::is_taken(was));
+    for b in 1..=255 {
         let now = tried(kind, b, place, given);
+        taken += u32::from(fares::is_taken(now));
         if now != was {
-            print_run(out, first, b, was)?;
+            print_run(out, first, b - 1, was)?;
             first = b;
             was = now;
         }
     }
+    print_run(out, first, 255, was)?;
     sheet::print_form(out, b" taken #\n", &[taken])
 }
 
-// The bytes from the first to the one before the end.
-fn print_run<W: Write>(out: &mut W, first: u32, end: u32, fare: u8) -> io::Result<()> {
-    let last = (end % 512 + 255) % 256;
+fn print_run<W: Write>(out: &mut W, first: u8, last: u8, fare: Fare) -> io::Result<()> {
     if first == last {
-        sheet::print_form(out, b" $", &[first])?;
+        sheet::print_form(out, b" $", &[first as u32])?;
     } else {
-        sheet::print_form(out, b" $ to $", &[first, last])?;
+        sheet::print_form(out, b" $ to $", &[first as u32, last as u32])?;
     }
     fares::print(out, fare)
 }
 
 // How a byte fares at the place. What is given keeps it.
-fn tried(kind: u8, b: u32, place: usize, given: &mut [u8]) -> u8 {
-    if 256 <= b {
-        return fares::PAST;
-    }
-    change(kind, b as u8, place, given);
+fn tried(kind: u8, b: u8, place: usize, given: &mut [u8]) -> Fare {
+    change(kind, b, place, given);
     fares::of(kind, given)
 }
 
@@ -101,24 +88,19 @@ fn change(kind: u8, b: u8, place: usize, given: &mut [u8]) {
     }
     let turned = given[place] ^ b;
     put(b, place, given);
-    if kind == b'f' {
-        put_check(place, given);
-        return;
-    }
-    if fares::is_dispenser(kind) {
-        turn_check(turned, place, given);
+    match kind {
+        b'f' => put_check(place, given),
+        b'c' | b'a' => turn_check(turned, place, given),
+        _ => {}
     }
 }
 
 // The check of a frame of the dispenser's turns with each bit that turns before it.
 fn turn_check(turned: u8, place: usize, given: &mut [u8]) {
-    let n = given.len();
-    if n == 0 {
-        return;
-    }
-    let last = n - 1;
-    if place < last {
-        given[last] = given[last] ^ turned;
+    if let Some((check, before)) = given.split_last_mut() {
+        if place < before.len() {
+            *check ^= turned;
+        }
     }
 }
 
@@ -137,34 +119,29 @@ fn put_check(place: usize, given: &mut [u8]) {
 }
 
 fn put(b: u8, place: usize, given: &mut [u8]) {
-    if place < given.len() {
-        given[place] = b;
+    if let Some(held) = given.get_mut(place) {
+        *held = b;
     }
 }
 
 // Every bit of the bytes, of which there are 32 at most.
 fn turn_each<W: Write>(out: &mut W, given: &mut [u8]) -> io::Result<()> {
     let mut refused: u32 = 0;
-    let mut k: usize = 0;
-    while k < 256 {
-        refused = refused % 65_536 + turned(k, given);
-        k += 1;
+    for k in 0..256 {
+        refused += u32::from(is_refused_turned(k, given));
     }
     sheet::print_form(out, b" refused #\n", &[refused])
 }
 
-// 1 where the frame with that bit turned is refused. The byte is put back.
-fn turned(k: usize, given: &mut [u8]) -> u32
-    ensures { result ≤ 1 }
-{
+// Is the frame with that bit turned refused? The byte is put back.
+fn is_refused_turned(k: usize, given: &mut [u8]) -> bool {
     let i = k / 8;
     if given.len() <= i {
-        return 0;
+        return false;
     }
-    let bits = [1u8, 2, 4, 8, 16, 32, 64, 128];
     let was = given[i];
-    given[i] = was ^ bits[k % 8];
+    given[i] ^= 1 << (k % 8);
     let fare = fares::of(b'f', given);
     given[i] = was;
-    1 - fares::taken(fare)
+    !fares::is_taken(fare)
 }

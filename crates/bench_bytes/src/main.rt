@@ -12,18 +12,8 @@ mod lines;
 fn main(rt: HostRuntime) -> io::Result<()> {
     let mut store = [0u8; 65_536];
     let n = files::read_all(&mut rt.stdin(), &mut store)?;
-    each(&mut rt.stdout(), &store[..n])
-}
-
-// Every line of a sheet, in turn.
-fn each<W: Write>(out: &mut W, all: &[u8]) -> io::Result<()> {
-    let mut at: usize = 0;
-    while at < all.len() {
-        let end = sheet::line_end(all, at);
-        one(out, &all[at..end])?;
-        at = end;
-    }
-    Ok(())
+    let mut out = rt.stdout();
+    sheet::each_line(&store[..n], |line| one(&mut out, line))
 }
 
 // A line is tried by its verb.

@@ -13,42 +13,27 @@ const ROOM: usize = 262_145;
 
 fn main(rt: HostRuntime) -> io::Result<()> {
     let mut store = [0u8; ROOM];
-    let n = match files::read_all(&mut rt.stdin(), &mut store) {
-        Ok(n) => n,
-        Err(why) => {
-            files::fail(&mut rt.stderr(), b"standard input", why);
-            return Ok(());
-        }
+    let over = b"standard input: over 262,144 bytes\n";
+    let Some(n) = files::read_sheet(&mut rt.stdin(), &mut rt.stderr(), over, &mut store)? else {
+        return Ok(());
     };
-    if n == ROOM {
-        return sheet::print_text(&mut rt.stderr(), b"standard input: over 262,144 bytes\n");
-    }
-    each(&mut rt.stdout(), &store[..n])
-}
-
-// Every line of a sheet, in turn.
-fn each<W: Write>(out: &mut W, all: &[u8]) -> io::Result<()> {
-    let mut at: usize = 0;
-    while at < all.len() {
-        let end = sheet::line_end(all, at);
-        one(out, &all[at..end])?;
-        at = end;
-    }
-    Ok(())
+    let mut out = rt.stdout();
+    sheet::each_line(&store[..n], |line| one(&mut out, line))
 }
 
 fn one<W: Write>(out: &mut W, line: &[u8]) -> io::Result<()> {
     if sheet::letter(line, 0) == b'p' {
-        return pair(out, line);
+        pair(out, line)
+    } else {
+        sheet::print_text(out, line)
     }
-    sheet::print_text(out, line)
 }
 
 fn pair<W: Write>(out: &mut W, line: &[u8]) -> io::Result<()> {
     let mut student = [0u8; words::MOST];
     let mut reference = [0u8; words::MOST];
-    let first = words::past_blank(line, 0);
-    let second = words::past_blank(line, first);
+    let first = sheet::past(line, 0, b' ');
+    let second = sheet::past(line, first, b' ');
     let n = words::put_bytes(&line[first..], &mut student);
     let m = words::put_bytes(&line[second..], &mut reference);
     print(out, &student[0..n], &reference[0..m])

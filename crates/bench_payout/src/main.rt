@@ -8,7 +8,8 @@ mod words;
 
 use std::env::Env;
 use std::io;
-use std::io::{Read, Write};
+use std::io::Write;
+use words::Asked;
 
 // One byte more than a sheet may have, so that one that is too long shows.
 const ROOM: usize = 65_537;
@@ -17,10 +18,15 @@ fn main(rt: HostRuntime) -> io::Result<()> {
     let mut out = rt.stdout();
     let mut says = rt.stderr();
     let count = files::arg_count(&rt);
-    if count < 2 {
-        return sheet_from(&mut rt.stdin(), &mut out, &mut says);
+    if 2 <= count {
+        return arguments(&rt, &mut out, &mut says, count - 1);
     }
-    arguments(&rt, &mut out, &mut says, count - 1)
+    let mut store = [0u8; ROOM];
+    let over = b"standard input: over 65,536 bytes\n";
+    let Some(n) = files::read_sheet(&mut rt.stdin(), &mut says, over, &mut store)? else {
+        return Ok(());
+    };
+    sheet::each_line(&store[..n], |line| one(&mut out, &mut says, line))
 }
 
 // The plan for so many arguments, behind the program's own name.
@@ -30,17 +36,13 @@ fn arguments<E: Env, W: Write, D: Write>(
     says: &mut D,
     count: usize,
 ) -> io::Result<()> {
-    let mut values = [0u32; 6];
-    let mut stocks = [0u32; 6];
-    let mut k: usize = 0;
-    while k < count {
-        let next = k + 1;
-        if !argument(env, says, next, k, &mut values, &mut stocks)? {
+    let mut asked = Asked::nothing();
+    for i in 1..=count {
+        if !argument(env, says, i, &mut asked)? {
             return Ok(());
         }
-        k = next;
     }
-    plan::print(out, k, &values, &stocks, b"\n")
+    plan::print(out, &asked, b"\n")
 }
 
 // Keeps what an argument says, or answers false where it is no number.
@@ -48,70 +50,31 @@ fn argument<E: Env, D: Write>(
     env: &E,
     says: &mut D,
     i: usize,
-    before: usize,
-    values: &mut [u32; 6],
-    stocks: &mut [u32; 6],
+    asked: &mut Asked,
 ) -> io::Result<bool> {
     let mut word = [0u8; 4_096];
     let Ok(n) = files::arg(env, i, &mut word) else {
         says.write_all(b"an argument over 4,096 bytes: no number\n")?;
         return Ok(false);
     };
-    words::keep(says, &word[0..n], before, values, stocks)
-}
-
-// The sheet that can be read from an input.
-fn sheet_from<R: Read, W: Write, D: Write>(
-    input: &mut R,
-    out: &mut W,
-    says: &mut D,
-) -> io::Result<()> {
-    let mut store = [0u8; ROOM];
-    let n = match files::read_all(input, &mut store) {
-        Ok(n) => n,
-        Err(why) => {
-            files::fail(says, b"standard input", why);
-            return Ok(());
-        }
-    };
-    if n == ROOM {
-        return says.write_all(b"standard input: over 65,536 bytes\n");
-    }
-    each(out, says, &store[..n])
-}
-
-// Every line of a sheet, in turn.
-fn each<W: Write, D: Write>(out: &mut W, says: &mut D, all: &[u8]) -> io::Result<()> {
-    let mut at: usize = 0;
-    while at < all.len() {
-        let end = sheet::line_end(all, at);
-        one(out, says, &all[at..end])?;
-        at = end;
-    }
-    Ok(())
+    asked.keep(says, &word[..n])
 }
 
 fn one<W: Write, D: Write>(out: &mut W, says: &mut D, line: &[u8]) -> io::Result<()> {
-    if words::is_digit(sheet::letter(line, 0)) {
-        let end = words::text_end(line);
-        return asked(out, says, &line[0..end]);
+    if sheet::letter(line, 0).is_ascii_digit() {
+        print_asked(out, says, words::without(line, b"\n"))
+    } else {
+        sheet::print_text(out, line)
     }
-    sheet::print_text(out, line)
 }
 
 // The plan for the words of a line.
-fn asked<W: Write, D: Write>(out: &mut W, says: &mut D, line: &[u8]) -> io::Result<()> {
-    let mut values = [0u32; 6];
-    let mut stocks = [0u32; 6];
-    let mut k: usize = 0;
-    let mut at: usize = 0;
-    while at < line.len() {
-        let end = words::place_of(b' ', line, at);
-        if !words::keep(says, &line[at..end], k, &mut values, &mut stocks)? {
+fn print_asked<W: Write, D: Write>(out: &mut W, says: &mut D, line: &[u8]) -> io::Result<()> {
+    let mut asked = Asked::nothing();
+    for word in line.split_inclusive(|b| *b == b' ') {
+        if !asked.keep(says, words::without(word, b" "))? {
             return Ok(());
         }
-        k += 1;
-        at = end + 1;
     }
-    plan::print(out, k, &values, &stocks, b" ")
+    plan::print(out, &asked, b" ")
 }

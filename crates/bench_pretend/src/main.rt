@@ -8,7 +8,7 @@ mod host;
 
 use dispenser_rules::Session;
 use pretend_rules::Device;
-use sheet_device::{moves, way};
+use sheet_device::{Way, moves};
 use std::io;
 use std::io::Write;
 
@@ -17,52 +17,26 @@ const ROOM: usize = 262_145;
 
 fn main(rt: HostRuntime) -> io::Result<()> {
     let mut store = [0u8; ROOM];
-    let n = match files::read_all(&mut rt.stdin(), &mut store) {
-        Ok(n) => n,
-        Err(why) => {
-            files::fail(&mut rt.stderr(), b"standard input", why);
-            return Ok(());
-        }
+    let over = b"standard input: over 262,144 bytes\n";
+    let Some(n) = files::read_sheet(&mut rt.stdin(), &mut rt.stderr(), over, &mut store)? else {
+        return Ok(());
     };
-    if n == ROOM {
-        return sheet::print_text(&mut rt.stderr(), b"standard input: over 262,144 bytes\n");
-    }
-    each(&mut rt.stdout(), &store[..n])
+    let mut out = rt.stdout();
+    sheet::each_line(&store[..n], |line| one(&mut out, line))
 }
 
-// Every line of a sheet, in turn.
-fn each<W: Write>(out: &mut W, all: &[u8]) -> io::Result<()> {
-    let mut at: usize = 0;
-    while at < all.len() {
-        let end = sheet::line_end(all, at);
-        one(out, &all[at..end])?;
-        at = end;
-    }
-    Ok(())
-}
-
-// A line that begins with run is one: the device's way up and the host's way down, and its moves.
+// A line that begins with run is one: every word behind the first, in turn; then what both accounts say.
 fn one<W: Write>(out: &mut W, line: &[u8]) -> io::Result<()> {
     if !moves::is_run(line) {
         return sheet::print_text(out, line);
     }
-    let mut up = [0usize; way::LENGTH];
-    let mut down = [0usize; way::LENGTH];
-    up[way::ROOM] = Device::ROOM;
-    down[way::ROOM] = Session::ROOM;
-    run(out, line, &mut up, &mut down)
-}
-
-// Every word behind the first, in turn; then what both accounts say.
-fn run<W: Write>(out: &mut W, line: &[u8], up: &mut [usize], down: &mut [usize]) -> io::Result<()> {
+    let mut up = Way::fresh(Device::ROOM);
+    let mut down = Way::fresh(Session::ROOM);
     let mut session = Session::fresh();
     let mut device = Device::fresh();
-    let mut at = sheet::past(line, 0, b' ');
-    while at < line.len() {
-        let end = sheet::past(line, at, b' ');
-        session = host::moved(out, &line[at..end], session, up, down)?;
-        device = sheet_device::moved(out, &line[at..end], device, down, up)?;
-        at = end;
+    for word in line.split_inclusive(|b| *b == b' ').skip(1) {
+        session = host::moved(out, word, session, &mut up, &mut down)?;
+        device = sheet_device::moved(out, word, device, &mut down, &mut up)?;
     }
     bench::show(out, session, device)
 }

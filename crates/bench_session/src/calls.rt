@@ -7,83 +7,83 @@
 //     session operator clears:
 //     session commands refused: 999999
 //     session account:
+use sheet_session::Call;
 use std::io;
 use std::io::Write;
 
-#[derive(Clone, Copy)]
-pub(crate) enum Call {
-    Request { code: u8, upper: u32, lower: u32 },
-    Byte(u8),
-    Tick(u32),
-    Clear,
+// What a line tells.
+#[derive(Clone, Copy, PartialEq, Eq)]
+pub(crate) enum Kind {
+    Starts,
+    Request,
+    Bytes,
+    Ticks,
+    OperatorClears,
+    CommandsRefused,
+    Account,
 }
 
 // The calls of a command that is refused: quiet enough for it, its request, and 15h for each hand-over that it may have.
 const REFUSED: u64 = 11;
 
-// Prints a line, and says its kind; 0 for a line that tells no calls.
-pub(crate) fn kind<W: Write>(out: &mut W, line: &[u8]) -> io::Result<u8> {
+// Prints a line, and says its kind; none for a line that tells no calls.
+pub(crate) fn kind_of<W: Write>(out: &mut W, line: &[u8]) -> io::Result<Option<Kind>> {
     if sheet::letter(line, 0) != b's' {
         sheet::print_text(out, line)?;
-        return Ok(0);
+        return Ok(None);
     }
-    sheet::print_text(out, b"  ")?;
-    sheet::print_text(out, line)?;
-    Ok(sheet::letter(line, 1))
+    sheet::print_whole_line(out, line)?;
+    Ok(named(sheet::letter(line, 1)))
+}
+
+fn named(letter: u8) -> Option<Kind> {
+    match letter {
+        b's' => Some(Kind::Starts),
+        b'r' => Some(Kind::Request),
+        b'b' => Some(Kind::Bytes),
+        b't' => Some(Kind::Ticks),
+        b'o' => Some(Kind::OperatorClears),
+        b'c' => Some(Kind::CommandsRefused),
+        b'a' => Some(Kind::Account),
+        _ => None,
+    }
 }
 
 // How many calls a line of some kind tells.
-pub(crate) fn count(kind: u8, line: &[u8]) -> u64 {
-    if kind == b'b' {
-        return sheet::frame_length(line) as u64;
+pub(crate) fn count(kind: Kind, line: &[u8]) -> u64 {
+    match kind {
+        Kind::Bytes => sheet::frame_length(line) as u64,
+        Kind::Ticks => sheet::number(line, 6) as u64,
+        Kind::CommandsRefused => sheet::number(line, 3) as u64 * REFUSED,
+        Kind::Request | Kind::OperatorClears => 1,
+        Kind::Starts | Kind::Account => 0,
     }
-    if kind == b't' {
-        return sheet::number(line, 6) as u64;
-    }
-    if kind == b'c' {
-        return sheet::number(line, 3) as u64 * REFUSED;
-    }
-    if kind == b'r' {
-        return 1;
-    }
-    if kind == b'o' {
-        return 1;
-    }
-    0
 }
 
 // The call of a line of some kind that has so many before it.
-pub(crate) fn nth(kind: u8, line: &[u8], before: u64) -> Call {
-    if kind == b'b' {
-        return Call::Byte(sheet::frame_byte(line, before as usize));
-    }
-    if kind == b't' {
-        return Call::Tick(sheet::number(line, 4));
-    }
-    if kind == b'r' {
-        return Call::Request {
+pub(crate) fn nth(kind: Kind, line: &[u8], before: u64) -> Call {
+    match kind {
+        Kind::Bytes => Call::Byte(sheet::frame_byte(line, before as usize)),
+        Kind::Ticks => Call::Tick(sheet::number(line, 4)),
+        Kind::Request => Call::Request {
             code: sheet::byte(line, 4),
             upper: sheet::number(line, 6),
             lower: sheet::number(line, 8),
-        };
+        },
+        Kind::CommandsRefused => refused(before % REFUSED),
+        Kind::Starts | Kind::OperatorClears | Kind::Account => Call::Clear,
     }
-    if kind == b'c' {
-        return refused(before % REFUSED);
-    }
-    Call::Clear
 }
 
 // Of a command that is refused.
 fn refused(before: u64) -> Call {
-    if before < 6 {
-        return Call::Tick(1_000);
-    }
-    if before == 6 {
-        return Call::Request {
+    match before {
+        0..=5 => Call::Tick(1_000),
+        6 => Call::Request {
             code: 0x44,
             upper: 0,
             lower: 0,
-        };
+        },
+        _ => Call::Byte(0x15),
     }
-    Call::Byte(0x15)
 }

@@ -9,38 +9,27 @@
 //     read answer, five bytes: 01 50 02 44 30
 //     count bytes of the answer to 44h
 //     count listed error bytes
-use dispenser_frame_rules::{Answer, AnswerRead, Cassette};
+use dispenser_frame_rules::{Answer, Cassette};
 use error_codes::ErrorClass;
 use std::io;
 use std::io::Write;
 
 // The answer that a line gives, with its fields in 01's order.
 pub(crate) fn given(line: &[u8]) -> Answer {
-    let code = sheet::byte(line, 4);
-    if code == 0x44 {
-        return Answer::Purged {
+    match sheet::byte(line, 4) {
+        0x44 => Answer::Purged {
             error: sheet::byte(line, 6),
-        };
-    }
-    if code == 0x45 {
-        return paid(line, Cassette::Upper);
-    }
-    if code == 0x55 {
-        return paid(line, Cassette::Lower);
-    }
-    if code == 0x56 {
-        return paid_both(line);
-    }
-    if code == 0x76 {
-        return tested(line, Cassette::Upper);
-    }
-    if code == 0x77 {
-        return tested(line, Cassette::Lower);
-    }
-    Answer::Status {
-        error: sheet::byte(line, 6),
-        sensor0: sheet::byte(line, 9),
-        sensor1: sheet::byte(line, 12),
+        },
+        0x45 => paid(line, Cassette::Upper),
+        0x55 => paid(line, Cassette::Lower),
+        0x56 => paid_both(line),
+        0x76 => tested(line, Cassette::Upper),
+        0x77 => tested(line, Cassette::Lower),
+        _ => Answer::Status {
+            error: sheet::byte(line, 6),
+            sensor0: sheet::byte(line, 9),
+            sensor1: sheet::byte(line, 12),
+        },
     }
 }
 
@@ -82,24 +71,17 @@ fn tested(line: &[u8], cassette: Cassette) -> Answer {
 // What reading an answer finds.
 pub(crate) fn found<W: Write>(out: &mut W, s: &[u8]) -> io::Result<()> {
     match dispenser_frame::read_answer(s) {
-        AnswerRead::Read { answer, class } => {
+        Ok(read) => {
             sheet::print_text(out, b" reads as")?;
-            sheet_answer::print_read(out, answer, class)
+            sheet_answer::print_read(out, read.answer, read.class)
         }
-        AnswerRead::Refused(why) => sheet::print_fault(out, why.number()),
+        Err(why) => sheet::print_fault(out, why.number()),
     }
 }
 
 // How many of the 256 bytes are listed as errors.
 pub(crate) fn listed_bytes() -> usize {
-    let mut n: usize = 0;
-    let mut b: u32 = 0;
-    while b < 256 {
-        match error_codes::class_of(b as u8) {
-            ErrorClass::Unlisted => {}
-            _ => n += 1,
-        }
-        b += 1;
-    }
-    n
+    (0..=255)
+        .filter(|b| !matches!(error_codes::class_of(*b), ErrorClass::Unlisted))
+        .count()
 }

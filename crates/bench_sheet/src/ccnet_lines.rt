@@ -9,20 +9,17 @@
 //
 // A body or data of so many bytes is so many times 41h.
 use ccnet_class::Class;
-use ccnet_frame::Judged;
 use refusals::Put;
 use std::io;
 use std::io::Write;
 
 // Writes what the line gives.
 pub(crate) fn put(kind: u8, line: &[u8], lent: &mut [u8]) -> Put {
-    if kind == b'A' {
-        return ccnet_frame::write_ack(lent);
+    match kind {
+        b'A' => ccnet_frame::write_ack(lent),
+        b'N' => ccnet_frame::write_nak(lent),
+        _ => put_given(kind, line, &[0x41u8; 300], lent),
     }
-    if kind == b'N' {
-        return ccnet_frame::write_nak(lent);
-    }
-    put_given(kind, line, &[0x41u8; 300], lent)
 }
 
 fn put_given(kind: u8, line: &[u8], given: &[u8], lent: &mut [u8]) -> Put {
@@ -41,8 +38,8 @@ pub(crate) fn found<W: Write>(out: &mut W, kind: u8, s: &[u8]) -> io::Result<()>
         return print_class(out, ccnet_class::classify(s));
     }
     match ccnet_frame::judge(s) {
-        Judged::Good { address } => sheet::print_form(out, b" address $", &[address as u32])?,
-        Judged::Refused(why) => sheet::print_form(out, b" refused #", &[why.number() as u32])?,
+        Ok(address) => sheet::print_form(out, b" address $", &[address as u32])?,
+        Err(why) => sheet::print_form(out, b" refused #", &[why.number() as u32])?,
     }
     print_body(out, ccnet_frame::body(s))
 }
@@ -57,26 +54,17 @@ fn print_body<W: Write>(out: &mut W, body: &[u8]) -> io::Result<()> {
 
 fn print_class<W: Write>(out: &mut W, class: Class) -> io::Result<()> {
     match class {
-        Class::Ack => told(out, 0, 0),
-        Class::Nak => told(out, 1, 0),
-        Class::Illegal => told(out, 2, 0),
-        Class::State(b) => told(out, 3, b),
-        Class::Busy(b) => told(out, 4, b),
-        Class::Rejecting(b) => told(out, 5, b),
-        Class::Failing(b) => told(out, 6, b),
-        Class::Escrow(b) => told(out, 7, b),
-        Class::Stacked(b) => told(out, 8, b),
-        Class::Returned(b) => told(out, 9, b),
-        Class::Unknown => told(out, 10, 0),
-        Class::Table => told(out, 11, 0),
+        Class::Ack => sheet::print_text(out, b" ACK\n"),
+        Class::Nak => sheet::print_text(out, b" NAK\n"),
+        Class::Illegal => sheet::print_text(out, b" illegal command\n"),
+        Class::State(b) => sheet::print_form(out, b" state $\n", &[b as u32]),
+        Class::Busy(b) => sheet::print_form(out, b" busy $\n", &[b as u32]),
+        Class::Rejecting(b) => sheet::print_form(out, b" rejecting $\n", &[b as u32]),
+        Class::Failing(b) => sheet::print_form(out, b" failing $\n", &[b as u32]),
+        Class::Escrow(y) => sheet::print_form(out, b" escrow of type #\n", &[y as u32]),
+        Class::Stacked(y) => sheet::print_form(out, b" stacked type #\n", &[y as u32]),
+        Class::Returned(y) => sheet::print_form(out, b" returned type #\n", &[y as u32]),
+        Class::Unknown => sheet::print_text(out, b" unknown\n"),
+        Class::Table => sheet::print_text(out, b" table\n"),
     }
-}
-
-fn told<W: Write>(out: &mut W, which: usize, b: u8) -> io::Result<()> {
-    sheet::print_one(
-        out,
-        b" ACK\n| NAK\n| illegal command\n| state $\n| busy $\n| rejecting $\n| failing $\n| escrow of type #\n| stacked type #\n| returned type #\n| unknown\n| table\n|",
-        which,
-        &[b as u32],
-    )
 }

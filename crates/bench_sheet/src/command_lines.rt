@@ -2,7 +2,6 @@
 //
 //     write command, room 24: 45h upper 10 lower 0
 //     read command, five bytes: 04 50 02 44 03
-use dispenser_frame_rules::CommandRead;
 use refusals::Put;
 use std::io;
 use std::io::Write;
@@ -18,11 +17,11 @@ pub(crate) fn put(line: &[u8], room: &mut [u8]) -> Put {
 // What reading a command finds: its code and counts.
 pub(crate) fn found<W: Write>(out: &mut W, s: &[u8]) -> io::Result<()> {
     match dispenser_frame::read_command(s) {
-        CommandRead::Read { code, upper, lower } => sheet::print_form(
+        Ok(command) => sheet::print_form(
             out,
             b" reads as $ upper # lower #\n",
-            &[code as u32, upper, lower],
+            &[command.code as u32, command.upper, command.lower],
         ),
-        CommandRead::Refused(why) => sheet::print_fault(out, why.number()),
+        Err(why) => sheet::print_fault(out, why.number()),
     }
 }

@@ -16,9 +16,10 @@ use std::io::Write;
 pub(crate) fn kind(verb: u8, line: &[u8]) -> u8 {
     let letter = sheet::letter(line, 1);
     if verb == b'v' {
-        return letter % 32 + 64;
+        letter % 32 + 64
+    } else {
+        letter
     }
-    letter
 }
 
 // Whether a line writes, reads or counts, by the first letter of that word; the validator reads frames and says what a body is.
@@ -26,16 +27,16 @@ pub(crate) fn tries(verb: u8, kind: u8) -> u8 {
     if verb != b'v' {
         return verb;
     }
-    if kind == b'R' {
-        return b'r';
+    match kind {
+        b'R' | b'S' => b'r',
+        _ => b'w',
     }
-    if kind == b'S' { b'r' } else { b'w' }
 }
 
 // Writes the values to a room of the size given. What was put is read back, but for decimal text, which is for people.
 pub(crate) fn write<W: Write>(out: &mut W, kind: u8, line: &[u8]) -> io::Result<()> {
     sheet::print_line(out, line)?;
-    let mut room = sheet::long_room();
+    let mut room = sheet::fresh_room::<{ sheet::LONG }>();
     write_in(out, kind, line, &mut room)
 }
 
@@ -54,16 +55,12 @@ fn write_in<W: Write>(out: &mut W, kind: u8, line: &[u8], room: &mut [u8]) -> io
 }
 
 fn put(kind: u8, line: &[u8], room: &mut [u8]) -> Put {
-    if kind == b'c' {
-        return command_lines::put(line, room);
+    match kind {
+        b'c' => command_lines::put(line, room),
+        b'a' => dispenser_frame::write_answer(answer_lines::given(line), room),
+        0..b'a' => ccnet_lines::put(kind, line, room),
+        _ => numbers_lines::put(kind, sheet::number(line, 4), room),
     }
-    if kind == b'a' {
-        return dispenser_frame::write_answer(answer_lines::given(line), room);
-    }
-    if kind < b'a' {
-        return ccnet_lines::put(kind, line, room);
-    }
-    numbers_lines::put(kind, sheet::number(line, 4), room)
 }
 
 // Reads the frame that the line gives.
@@ -76,26 +73,23 @@ pub(crate) fn read<W: Write>(out: &mut W, kind: u8, line: &[u8]) -> io::Result<(
 }
 
 fn found<W: Write>(out: &mut W, kind: u8, s: &[u8]) -> io::Result<()> {
-    if kind == b'c' {
-        return command_lines::found(out, s);
+    match kind {
+        b'c' => command_lines::found(out, s),
+        b'a' => answer_lines::found(out, s),
+        0..b'a' => ccnet_lines::found(out, kind, s),
+        _ => numbers_lines::found(out, kind, s),
     }
-    if kind == b'a' {
-        return answer_lines::found(out, s);
-    }
-    if kind < b'a' {
-        return ccnet_lines::found(out, kind, s);
-    }
-    numbers_lines::found(out, kind, s)
 }
 
 // Counts what the line's second word names.
 pub(crate) fn count<W: Write>(out: &mut W, kind: u8, line: &[u8]) -> io::Result<()> {
     sheet::print_line(out, line)?;
     sheet::print_text(out, b" ")?;
-    if kind == b'b' {
-        sheet::print_number(out, dispenser_frame::answer_length(sheet::byte(line, 6)))?;
+    let n = if kind == b'b' {
+        dispenser_frame::answer_length(sheet::byte(line, 6))
     } else {
-        sheet::print_number(out, answer_lines::listed_bytes())?;
-    }
+        answer_lines::listed_bytes()
+    };
+    sheet::print_number(out, n)?;
     sheet::print_text(out, b"\n")
 }

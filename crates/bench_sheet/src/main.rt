@@ -18,33 +18,18 @@ mod numbers_lines;
 fn main(rt: HostRuntime) -> io::Result<()> {
     let mut store = [0u8; 65_536];
     let n = files::read_all(&mut rt.stdin(), &mut store)?;
-    each(&mut rt.stdout(), &store[..n])
-}
-
-// Every line of a sheet, in turn.
-fn each<W: Write>(out: &mut W, all: &[u8]) -> io::Result<()> {
-    let mut at: usize = 0;
-    while at < all.len() {
-        let end = sheet::line_end(all, at);
-        one(out, &all[at..end])?;
-        at = end;
-    }
-    Ok(())
+    let mut out = rt.stdout();
+    sheet::each_line(&store[..n], |line| one(&mut out, line))
 }
 
 // One line, by what it tries.
 fn one<W: Write>(out: &mut W, line: &[u8]) -> io::Result<()> {
     let verb = sheet::letter(line, 0);
     let kind = lines::kind(verb, line);
-    let tries = lines::tries(verb, kind);
-    if tries == b'w' {
-        return lines::write(out, kind, line);
+    match lines::tries(verb, kind) {
+        b'w' => lines::write(out, kind, line),
+        b'r' => lines::read(out, kind, line),
+        b'c' => lines::count(out, kind, line),
+        _ => sheet::print_text(out, line),
     }
-    if tries == b'r' {
-        return lines::read(out, kind, line);
-    }
-    if tries == b'c' {
-        return lines::count(out, kind, line);
-    }
-    sheet::print_text(out, line)
 }

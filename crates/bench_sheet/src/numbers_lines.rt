@@ -5,21 +5,21 @@
 //     write decimal, room 24: 10
 //     write two-digits, room 2: 5
 //     read two-digits, five: 30 35
-use numbers::{Number, Seven};
+use numbers::{NoSeven, Seven};
 use refusals::Put;
 use std::io;
 use std::io::Write;
 
 // Writes a number. The digits of a count fill their room.
 pub(crate) fn put(kind: u8, n: u32, room: &mut [u8]) -> Put {
-    if kind == b'g' {
-        return numbers::write_groups(n, room);
+    match kind {
+        b'g' => numbers::write_groups(n, room),
+        b'd' => numbers::write_decimal(n as u64, room),
+        _ => {
+            numbers::put_digits(n as u64, room);
+            Ok(room.len())
+        }
     }
-    if kind == b'd' {
-        return numbers::write_decimal(n as u64, room);
-    }
-    numbers::put_digits(n as u64, room);
-    Put::Bytes(room.len())
 }
 
 // What reading a number finds, in groups of seven bits or in digits.
@@ -28,18 +28,18 @@ pub(crate) fn found<W: Write>(out: &mut W, kind: u8, s: &[u8]) -> io::Result<()>
         return groups(out, numbers::read_groups(s));
     }
     match numbers::read_digits(s) {
-        Number::Of(n) => sheet::print_form(out, b" reads as #\n", &[n]),
-        Number::NoNumber => sheet::print_text(out, b" no number\n"),
+        Some(n) => sheet::print_form(out, b" reads as #\n", &[n]),
+        None => sheet::print_text(out, b" no number\n"),
     }
 }
 
-fn groups<W: Write>(out: &mut W, found: Seven) -> io::Result<()> {
+fn groups<W: Write>(out: &mut W, found: Result<Seven, NoSeven>) -> io::Result<()> {
     match found {
-        Seven::Value { value, used } => {
+        Ok(Seven { value, used }) => {
             sheet::print_form(out, b" reads as #, length ", &[value])?;
             sheet::print_number(out, used)?;
             sheet::print_text(out, b"\n")
         }
-        _ => sheet::print_fault(out, found.number()),
+        Err(why) => sheet::print_fault(out, why.number()),
     }
 }

@@ -11,6 +11,17 @@ ghost use Rattle.std.specs.Prelude.{◌≤◌, length};
 use std::io;
 use std::io::Write;
 
+// What a line tells.
+#[derive(Clone, Copy, PartialEq, Eq)]
+pub(crate) enum Kind {
+    Starts,
+    Request,
+    Bytes,
+    Ticks,
+    PollsUnanswered,
+    Kept,
+}
+
 #[derive(Clone, Copy)]
 pub(crate) enum Call {
     Request(u8),
@@ -21,65 +32,65 @@ pub(crate) enum Call {
 // The calls of a poll that closes as silent: quiet enough for it, its request, and the wait for its answer.
 const UNANSWERED: u64 = 3;
 
-// Prints a line, and says its kind; 0 for a line that tells no calls.
-pub(crate) fn kind<W: Write>(out: &mut W, line: &[u8]) -> io::Result<u8> {
+// Prints a line, and says its kind; none for a line that tells no calls.
+pub(crate) fn kind_of<W: Write>(out: &mut W, line: &[u8]) -> io::Result<Option<Kind>> {
     if sheet::letter(line, 0) != b's' {
         sheet::print_text(out, line)?;
-        return Ok(0);
+        return Ok(None);
     }
-    sheet::print_text(out, b"  ")?;
-    sheet::print_text(out, line)?;
-    Ok(sheet::letter(line, 1))
+    sheet::print_whole_line(out, line)?;
+    Ok(named(sheet::letter(line, 1)))
+}
+
+fn named(letter: u8) -> Option<Kind> {
+    match letter {
+        b's' => Some(Kind::Starts),
+        b'r' => Some(Kind::Request),
+        b'b' => Some(Kind::Bytes),
+        b't' => Some(Kind::Ticks),
+        b'p' => Some(Kind::PollsUnanswered),
+        b'k' => Some(Kind::Kept),
+        _ => None,
+    }
 }
 
 // How many calls a line of some kind tells.
-pub(crate) fn count(kind: u8, line: &[u8]) -> u64 {
-    if kind == b'b' {
-        return sheet::frame_length(line) as u64;
+pub(crate) fn count(kind: Kind, line: &[u8]) -> u64 {
+    match kind {
+        Kind::Bytes => sheet::frame_length(line) as u64,
+        Kind::Ticks => sheet::number(line, 6) as u64,
+        Kind::PollsUnanswered => sheet::number(line, 3) as u64 * UNANSWERED,
+        Kind::Request => 1,
+        Kind::Starts | Kind::Kept => 0,
     }
-    if kind == b't' {
-        return sheet::number(line, 6) as u64;
-    }
-    if kind == b'p' {
-        return sheet::number(line, 3) as u64 * UNANSWERED;
-    }
-    if kind == b'r' {
-        return 1;
-    }
-    0
 }
 
 // The call of a line of some kind that has so many before it.
-pub(crate) fn nth(kind: u8, line: &[u8], before: u64) -> Call {
-    if kind == b'b' {
-        return Call::Byte(sheet::frame_byte(line, before as usize));
+pub(crate) fn nth(kind: Kind, line: &[u8], before: u64) -> Call {
+    match kind {
+        Kind::Bytes => Call::Byte(sheet::frame_byte(line, before as usize)),
+        Kind::Ticks => Call::Tick(sheet::number(line, 4)),
+        Kind::PollsUnanswered => unanswered(before % UNANSWERED),
+        Kind::Starts | Kind::Request | Kind::Kept => Call::Request(sheet::frame_byte(line, 0)),
     }
-    if kind == b't' {
-        return Call::Tick(sheet::number(line, 4));
-    }
-    if kind == b'p' {
-        return unanswered(before % UNANSWERED);
-    }
-    Call::Request(sheet::frame_byte(line, 0))
 }
 
 // Of a poll that closes as silent.
 fn unanswered(before: u64) -> Call {
-    if before == 0 {
-        return Call::Tick(20);
+    match before {
+        0 => Call::Tick(20),
+        1 => Call::Request(0x33),
+        _ => Call::Tick(10),
     }
-    if before == 1 {
-        return Call::Request(0x33);
-    }
-    Call::Tick(10)
 }
 
 // Puts the data of a line that is a request at the start of the store, and says how many bytes they are.
-pub(crate) fn data(line: &[u8], store: &mut [u8]) -> usize
+pub(crate) fn data(kind: Kind, line: &[u8], store: &mut [u8]) -> usize
     ensures { result ≤ length store.old }
 {
-    if sheet::letter(line, 1) == b'r' {
-        return sheet::frame_from(line, 1, store);
+    if kind == Kind::Request {
+        sheet::frame_from(line, 1, store)
+    } else {
+        0
     }
-    0
 }

@@ -10,19 +10,14 @@ use crate::{show, words};
 use refusals::Put;
 use std::io;
 use std::io::Write;
-use vcdm_frame_rules::{AnswerRead, CommandRead};
 
 // A line by its verb.
 pub(crate) fn run<W: Write>(out: &mut W, line: &[u8]) -> io::Result<()> {
-    let verb = sheet::letter(line, 0);
-    if verb == b'w' {
-        let mut lent = words::room();
-        return write(out, line, &mut lent);
+    match sheet::letter(line, 0) {
+        b'w' => write(out, line, &mut sheet::fresh_room::<{ words::ROOM }>()),
+        b'r' => read(out, line),
+        _ => sheet::print_text(out, line),
     }
-    if verb == b'r' {
-        return read(out, line);
-    }
-    sheet::print_text(out, line)
 }
 
 // Writes what the line gives to a room of the size that it gives.
@@ -57,28 +52,25 @@ fn read<W: Write>(out: &mut W, line: &[u8]) -> io::Result<()> {
 
 fn found<W: Write>(out: &mut W, line: &[u8], s: &[u8]) -> io::Result<()> {
     if sheet::letter(line, 1) == b'c' {
-        return found_command(out, s);
+        found_command(out, s)
+    } else {
+        found_answer(out, s)
     }
-    found_answer(out, s)
 }
 
 fn found_command<W: Write>(out: &mut W, s: &[u8]) -> io::Result<()> {
     match vcdm_frame::read_command(s) {
-        CommandRead::Read {
-            code,
-            counts,
-            serial,
-        } => show::command(out, code, counts, serial),
-        CommandRead::Refused(why) => sheet::print_fault(out, why.number()),
+        Ok(command) => show::command(out, command),
+        Err(why) => sheet::print_fault(out, why.number()),
     }
 }
 
 fn found_answer<W: Write>(out: &mut W, s: &[u8]) -> io::Result<()> {
     match vcdm_frame::read_answer(s) {
-        AnswerRead::Read(answer) => {
+        Ok(answer) => {
             sheet::print_text(out, b" reads as")?;
             show::answer(out, answer)
         }
-        AnswerRead::Refused(why) => sheet::print_fault(out, why.number()),
+        Err(why) => sheet::print_fault(out, why.number()),
     }
 }

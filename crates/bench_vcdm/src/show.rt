@@ -1,22 +1,26 @@
 // What a call answered, what the account says, and commands and answers with their fields in the frame's order. A call that sends, closes or is refused says so in a line of its
 // own.
-use exchange_rules::Sums;
+use crate::calls::Kind;
+use sheet_sums::print_sums;
 use std::io;
 use std::io::Write;
-use vcdm_frame_rules::{Answer, Cassettes, Counts, Place, Places, Spare};
+use vcdm_frame_rules::{Answer, Cassettes, Command, Place, Places, Spare};
 use vcdm_rules::{Closing, Reply, Session};
 
 // Of dispenses that are refused one by one nothing is said.
-pub(crate) fn reply<W: Write>(out: &mut W, kind: u8, reply: Reply, lent: &[u8]) -> io::Result<()> {
-    if kind == b'd' {
-        return Ok(());
-    }
+pub(crate) fn reply<W: Write>(
+    out: &mut W,
+    kind: Kind,
+    reply: Reply,
+    lent: &[u8],
+) -> io::Result<()> {
     match reply {
-        Reply::NotDone(why) => sheet::print_not_done(out, why.number(), lent),
-        Reply::Done { put, closing } => {
-            sheet::print_done(out, put, lent)?;
-            closed(out, closing)
+        _ if kind == Kind::DispensesRefused => Ok(()),
+        Ok(done) => {
+            sheet::print_done(out, done.put, lent)?;
+            closed(out, done.closing)
         }
+        Err(why) => sheet::print_not_done(out, why.number(), lent),
     }
 }
 
@@ -33,42 +37,25 @@ fn closed<W: Write>(out: &mut W, closing: Closing) -> io::Result<()> {
 }
 
 pub(crate) fn account<W: Write>(out: &mut W, session: Session) -> io::Result<()> {
-    sums(out, b"    top", session.account.top)?;
-    sums(out, b"    second", session.account.second)?;
-    sums(out, b"    third", session.account.third)?;
-    sums(out, b"    bottom", session.account.bottom)
-}
-
-fn sums<W: Write>(out: &mut W, name: &[u8], s: Sums) -> io::Result<()> {
-    sheet::print_text(out, name)?;
-    sheet::print_form(
-        out,
-        b" asked # paid # short # over # refused # unknown # open # rejected #\n",
-        &[
-            s.asked.0,
-            s.paid.0,
-            s.short.0,
-            s.over.0,
-            s.refused.0,
-            s.unknown.0,
-            s.pending.0,
-            s.rejected.0,
-        ],
-    )
+    print_sums(out, b"    top", session.account.top)?;
+    print_sums(out, b"    second", session.account.second)?;
+    print_sums(out, b"    third", session.account.third)?;
+    print_sums(out, b"    bottom", session.account.bottom)
 }
 
 // A command's code, counts and serial.
-pub(crate) fn command<W: Write>(out: &mut W, code: u8, n: Counts, serial: u8) -> io::Result<()> {
+pub(crate) fn command<W: Write>(out: &mut W, command: Command) -> io::Result<()> {
+    let n = command.counts;
     sheet::print_form(
         out,
         b" reads as $ counts # # # # serial $\n",
         &[
-            code as u32,
+            command.code as u32,
             n.top,
             n.second,
             n.third,
             n.bottom,
-            serial as u32,
+            command.serial as u32,
         ],
     )
 }

@@ -1,67 +1,46 @@
 // What the words of a line give: counts and answers, and the room that is lent.
-ghost use Rattle.std.specs.Prelude.{◌≡◌, ◌≤◌, length};
+ghost use Rattle.std.specs.Prelude.{◌≤◌};
 
 use vcdm_frame_rules::{Answer, Cassettes, Counts, Paid, Place, Places, Spare};
 
-// What each byte of a lent room holds at first; what `sheet` takes for untouched.
-const FILL: u8 = 0xA5;
-
 // More than the longest frame, an answer of 30 bytes.
-pub(crate) fn room() -> [u8; 40]
-    ensures { 40 ≡ length result }
-{
-    [FILL; 40]
-}
+pub(crate) const ROOM: usize = 40;
 
 // Four counts from a word on.
 pub(crate) fn counts(line: &[u8], at: usize) -> Counts
     requires { at ≤ 100 }
 {
-    let top = sheet::number(line, at);
-    let second = sheet::number(line, at + 1);
-    let third = sheet::number(line, at + 2);
-    let bottom = sheet::number(line, at + 3);
     Counts {
-        top,
-        second,
-        third,
-        bottom,
+        top: sheet::number(line, at),
+        second: sheet::number(line, at + 1),
+        third: sheet::number(line, at + 2),
+        bottom: sheet::number(line, at + 3),
     }
 }
 
 // The answer that a line gives, with its fields in the frame's order.
 pub(crate) fn answer(line: &[u8]) -> Answer {
-    let code = sheet::byte(line, 4);
-    if code == 0x50 {
-        return status(line);
-    }
-    if code == 0x55 {
-        return last(line);
-    }
-    if code == 0x44 {
-        return Answer::Reset {
+    match sheet::byte(line, 4) {
+        0x50 => status(line),
+        0x55 => last(line),
+        0x44 => Answer::Reset {
             error: sheet::byte(line, 6),
-        };
+        },
+        code => paid_or_purged(code, line),
     }
-    paid_or_purged(code, line)
 }
 
 fn status(line: &[u8]) -> Answer {
-    let top = place(line, 12);
-    let second = place(line, 21);
-    let third = place(line, 30);
-    let bottom = place(line, 39);
-    let places = Places {
-        top,
-        second,
-        third,
-        bottom,
-    };
     Answer::Status {
         error: sheet::byte(line, 6),
         disp0: sheet::byte(line, 8),
         disp1: sheet::byte(line, 9),
-        places,
+        places: Places {
+            top: place(line, 12),
+            second: place(line, 21),
+            third: place(line, 30),
+            bottom: place(line, 39),
+        },
     }
 }
 
@@ -82,30 +61,29 @@ fn paid_or_purged(code: u8, line: &[u8]) -> Answer {
     let cassettes = cassettes(line, 11);
     let spare = spare(line, 38);
     if code == 0x51 {
-        return Answer::Purged {
+        Answer::Purged {
             error,
             miss: second,
             cassettes,
             spare,
-        };
-    }
-    Answer::Dispensed {
-        error,
-        serial: second,
-        cassettes,
-        spare,
+        }
+    } else {
+        Answer::Dispensed {
+            error,
+            serial: second,
+            cassettes,
+            spare,
+        }
     }
 }
 
 fn last(line: &[u8]) -> Answer {
-    let cassettes = cassettes(line, 13);
-    let spare = spare(line, 40);
     Answer::Last {
         last: sheet::byte(line, 6),
         error: sheet::byte(line, 8),
         serial: sheet::byte(line, 10),
-        cassettes,
-        spare,
+        cassettes: cassettes(line, 13),
+        spare: spare(line, 40),
     }
 }
 
@@ -113,15 +91,11 @@ fn last(line: &[u8]) -> Answer {
 fn cassettes(line: &[u8], at: usize) -> Cassettes
     requires { at ≤ 60 }
 {
-    let top = paid(line, at);
-    let second = paid(line, at + 7);
-    let third = paid(line, at + 14);
-    let bottom = paid(line, at + 21);
     Cassettes {
-        top,
-        second,
-        third,
-        bottom,
+        top: paid(line, at),
+        second: paid(line, at + 7),
+        third: paid(line, at + 14),
+        bottom: paid(line, at + 21),
     }
 }
 

@@ -8,7 +8,8 @@
 // forms and as a narrow frame. Of the data that are handed back the line tells how many they are, and how many of them are the fill.
 ghost use Rattle.std.specs.Prelude.{◌≤◌};
 
-use ccnet_wide::{Form, Judged, Lead};
+use ccnet_frame::Fault;
+use ccnet_wide::{Form, Head, Lead};
 use refusals::Put;
 use std::io;
 use std::io::Write;
@@ -17,14 +18,9 @@ use std::io::Write;
 const UNTOUCHED: u8 = 0xA5;
 
 pub(crate) fn write<W: Write>(out: &mut W, line: &[u8]) -> io::Result<()> {
-    print_line(out, line)?;
+    sheet::print_whole_line(out, line)?;
     let mut lent = [UNTOUCHED; 65_536];
     write_in(out, line, &mut lent)
-}
-
-fn print_line<W: Write>(out: &mut W, line: &[u8]) -> io::Result<()> {
-    sheet::print_text(out, b"  ")?;
-    sheet::print_text(out, line)
 }
 
 // Writes what the line gives to a room of the size that it gives.
@@ -32,8 +28,8 @@ fn write_in<W: Write>(out: &mut W, line: &[u8], lent: &mut [u8]) -> io::Result<(
     let end = sheet::at_most(sheet::number(line, 3) as usize, lent);
     let fill = sheet::byte(line, 12);
     match put_frame(line, fill, &mut lent[0..end]) {
-        Put::Bytes(n) => print_laid(out, n, fill, lent),
-        Put::Refused(why) => print_refused(out, why.number(), lent),
+        Ok(n) => print_laid(out, n, fill, lent),
+        Err(why) => print_refused(out, why.number(), lent),
     }
 }
 
@@ -50,16 +46,14 @@ fn put_frame(line: &[u8], fill: u8, lent: &mut [u8]) -> Put {
 
 // By the form's first letter.
 fn lead_of(letter: u8, first: u8, second: u8) -> Lead {
-    if letter == b'c' {
-        return Lead::Code(first);
-    }
-    if letter == b's' {
-        return Lead::Subcommand {
+    match letter {
+        b'c' => Lead::Code(first),
+        b's' => Lead::Subcommand {
             code: first,
             subcommand: second,
-        };
+        },
+        _ => Lead::Nothing,
     }
-    Lead::Nothing
 }
 
 // The frame's first eight bytes and its last two, and whether every other byte of the room is what it was.
@@ -78,9 +72,8 @@ fn print_laid<W: Write>(out: &mut W, n: usize, fill: u8, lent: &[u8]) -> io::Res
 }
 
 fn print_last_two<W: Write>(out: &mut W, s: &[u8]) -> io::Result<()> {
-    let n = s.len();
-    if 1 < n {
-        sheet::print_bytes(out, &[s[n - 2], s[n - 1]])?;
+    if let [.., a, b] = s {
+        sheet::print_bytes(out, &[*a, *b])?;
     }
     Ok(())
 }
@@ -91,7 +84,7 @@ fn print_refused<W: Write>(out: &mut W, number: u8, lent: &[u8]) -> io::Result<(
 }
 
 fn print_kept<W: Write>(out: &mut W, rest: &[u8]) -> io::Result<()> {
-    if count_of(UNTOUCHED, rest) == rest.len() {
+    if rest.iter().all(|b| *b == UNTOUCHED) {
         sheet::print_text(out, b"kept\n")
     } else {
         sheet::print_text(out, b"CHANGED\n")
@@ -100,19 +93,7 @@ fn print_kept<W: Write>(out: &mut W, rest: &[u8]) -> io::Result<()> {
 
 // How many of the bytes are b.
 fn count_of(b: u8, s: &[u8]) -> usize {
-    let mut n: usize = 0;
-    let mut i: usize = 0;
-    while i < s.len() {
-        n += one_if(s[i] == b);
-        i += 1;
-    }
-    n
-}
-
-fn one_if(same: bool) -> usize
-    ensures { result ≤ 1 }
-{
-    if same { 1 } else { 0 }
+    s.iter().filter(|x| **x == b).count()
 }
 
 // The bytes, read in each of the three forms and as a narrow frame.
@@ -124,22 +105,27 @@ fn print_read<W: Write>(out: &mut W, s: &[u8], fill: u8) -> io::Result<()> {
     sheet::print_text(out, b"; once:")?;
     print_form_read(out, Form::AtOnce, s, fill)?;
     sheet::print_text(out, b"; narrow:")?;
-    print_narrow(out, s)?;
+    print_judged(out, ccnet_frame::judge(s))?;
     sheet::print_text(out, b"\n")
 }
 
 fn print_form_read<W: Write>(out: &mut W, form: Form, s: &[u8], fill: u8) -> io::Result<()> {
-    print_judged(out, ccnet_wide::judge(form, s))?;
+    print_head(out, ccnet_wide::judge(form, s))?;
     print_data(out, ccnet_wide::data_of(form, s), fill)
 }
 
-fn print_judged<W: Write>(out: &mut W, judged: Judged) -> io::Result<()> {
+fn print_head<W: Write>(out: &mut W, judged: Result<Head, Fault>) -> io::Result<()> {
+    print_judged(out, judged.map(|head| head.address))?;
+    if let Ok(head) = judged {
+        print_lead(out, head.lead)?;
+    }
+    Ok(())
+}
+
+fn print_judged<W: Write>(out: &mut W, judged: Result<u8, Fault>) -> io::Result<()> {
     match judged {
-        Judged::Good { address, lead } => {
-            sheet::print_form(out, b" address $", &[address as u32])?;
-            print_lead(out, lead)
-        }
-        Judged::Refused(why) => sheet::print_form(out, b" refused #", &[why.number() as u32]),
+        Ok(address) => sheet::print_form(out, b" address $", &[address as u32]),
+        Err(why) => sheet::print_form(out, b" refused #", &[why.number() as u32]),
     }
 }
 
@@ -164,19 +150,8 @@ fn print_data<W: Write>(out: &mut W, part: &[u8], fill: u8) -> io::Result<()> {
     sheet::print_number(out, count_of(fill, part))
 }
 
-fn print_narrow<W: Write>(out: &mut W, s: &[u8]) -> io::Result<()> {
-    match ccnet_frame::judge(s) {
-        ccnet_frame::Judged::Good { address } => {
-            sheet::print_form(out, b" address $", &[address as u32])
-        }
-        ccnet_frame::Judged::Refused(why) => {
-            sheet::print_form(out, b" refused #", &[why.number() as u32])
-        }
-    }
-}
-
 pub(crate) fn read<W: Write>(out: &mut W, line: &[u8]) -> io::Result<()> {
-    print_line(out, line)?;
+    sheet::print_whole_line(out, line)?;
     let fill = sheet::byte(line, 16);
     let mut made = [fill; 65_536];
     let end = sheet::at_most(sheet::number(line, 3) as usize, &made);
@@ -207,10 +182,11 @@ fn put_opening(line: &[u8], made: &mut [u8]) {
 fn length_place(letter: u8) -> usize
     ensures { result ≤ 5 }
 {
-    if letter == b'c' {
-        return 4;
+    match letter {
+        b'c' => 4,
+        b's' => 5,
+        _ => 3,
     }
-    if letter == b's' { 5 } else { 3 }
 }
 
 fn put_length(at: usize, says: u32, made: &mut [u8])
@@ -221,8 +197,8 @@ fn put_length(at: usize, says: u32, made: &mut [u8])
 }
 
 fn put(b: u8, place: usize, made: &mut [u8]) {
-    if place < made.len() {
-        made[place] = b;
+    if let Some(held) = made.get_mut(place) {
+        *held = b;
     }
 }
 

@@ -14,7 +14,7 @@ use Rattle.bill_table.specs.Promises.{AllZero, Usable, MeansExactly, TotalsExact
 use Rattle.bill_table.specs.declared.Word.{Word}
 use Rattle.bill_table.specs.declared.Value.{Value}
 use Rattle.bill_table.specs.declared.Meaning.TheVariants.{NoBill, Unusable, Valued}
-use Rattle.bill_table.specs.declared.Total.TheVariants.{NoValue, Sum, Refused}
+use Rattle.bill_table.specs.Total.{NoValue, Sum, Refused}
 use Rattle.bill_table.proofs.Amounts.{zeros-few, places-few, one-most, all_most}
 
 -- ---- the tests say what is promised

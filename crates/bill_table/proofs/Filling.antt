@@ -14,9 +14,9 @@ drop-zeros zero n = simp unary_clauses
 drop-zeros (suc k) zero = let e : 0 - suc k ≡ 0 = omega arith in rw e
 drop-zeros (suc k) (suc n) = simp unary_clauses (drop-zeros k n)
 
-pub filled-over : (body : List ℕ) → over body (replicate table_size 0) ≡ filled body
+pub filled_over : (body : List ℕ) → over body (replicate table_size 0) ≡ filled body
 unfolding over filled
-filled-over body = ap (λ (z : List ℕ). body ++ z) (drop-zeros (length body) table_size)
+filled_over body = ap (λ (z : List ℕ). body ++ z) (drop-zeros (length body) table_size)
 
 -- a table that is filled up has 120 bytes, and one that has them already is as it was
 pub filled-size : (body : List ℕ) → length body ≤ table_size → length (filled body) ≡ table_size

@@ -4,7 +4,7 @@ use Prim.Native.Nat.{ℕ}
 use mathlib.Core.Bool.{Bool}
 use mathlib.Core.Path.{ap}
 use mathlib.Core.List.{List}
-use Rattle.refusals.specs.declared.Put.{Put}
+use Rattle.refusals.specs.Put.{Put}
 use Rattle.refusals.proofs.Tied.{Tied, tied}
 use Rattle.bill_table.proofs.read.Kinds as read
 use Rattle.bill_table.proofs.read.Reads as read-reads

@@ -8,7 +8,7 @@ use lib.ListN.{length, get_or, take, drop, replicate}
 use lib.Seq.{drop-drop}
 use borrow.Author.Tests.{lt-ltb}
 use Rattle.refusals.specs.Put.{written, laid, writing, writing_refusals}
-use Rattle.refusals.specs.declared.Put.TheVariants.{Bytes}
+use Rattle.refusals.specs.Put.{Bytes}
 use Rattle.refusals.proofs.Rules.{by_cases, holds-true, fails-false}
 use Rattle.refusals.proofs.Writing.{done-laid, take-over, writing-exactly}
 use Rattle.bill_table.specs.Table.{table_size, word_size, word_count, no_word, first_word, words_in, bytes_of, word_at, filled, is_table, kept, read_table}

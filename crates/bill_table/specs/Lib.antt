@@ -2,3 +2,4 @@
 pub mod Table
 pub mod Worth
 pub mod Promises
+pub mod Total

@@ -2,14 +2,14 @@
 use Rattle.std.specs.Prelude.{ℕ, ◌+◌, ◌-◌, ◌*◌, ◌^◌, ◌≤◌, ◌<◌, ◌≡◌, true, false, List, ◌++◌, ◌↔◌, length, get_or, take, replicate}
 use Rattle.refusals.specs.Numbers.{refusal_number}
 use Rattle.refusals.specs.Put.{written, laid, writing}
-use Rattle.refusals.specs.declared.Put.TheVariants.{Bytes}
+use Rattle.refusals.specs.Put.{Bytes}
 use Rattle.refusals.specs.declared.Refusal.TheVariants.{Range}
 use Rattle.bill_table.specs.Table.{table_size, word_size, word_count, no_word, words_in, bytes_of, word_at, kept, read_table}
 use Rattle.bill_table.specs.Worth.{most_bills, value, meaning_of, total_of}
 use Rattle.bill_table.specs.declared.Word.{Word}
 use Rattle.bill_table.specs.declared.Value.{Value}
 use Rattle.bill_table.specs.declared.Meaning.TheVariants.{NoBill, Unusable, Valued}
-use Rattle.bill_table.specs.declared.Total.TheVariants.{NoValue, Sum, Refused}
+use Rattle.bill_table.specs.Total.{NoValue, Sum, Refused}
 
 -- bytes as words, once for every number of words: the bytes of the words that some bytes are, are those bytes; and the words that stand in the bytes of some
 -- words are those words. The word of a bill type is the one at its place among the 24

@@ -8,8 +8,8 @@ use Rattle.bill_table.specs.declared.Word.{Word}
 use Rattle.bill_table.specs.declared.Value.{Value}
 use Rattle.bill_table.specs.declared.Meaning.{Meaning}
 use Rattle.bill_table.specs.declared.Meaning.TheVariants.{NoBill, Unusable, Valued}
-use Rattle.bill_table.specs.declared.Total.{Total}
-use Rattle.bill_table.specs.declared.Total.TheVariants.{NoValue, Sum, Refused}
+use Rattle.bill_table.specs.Total.{Total}
+use Rattle.bill_table.specs.Total.{NoValue, Sum, Refused}
 
 -- "this line has accepted 1,000,000 commands" (01, number 5), and each bill is the answer to one
 abbrev pub most_bills : ℕ

@@ -4,9 +4,8 @@
 ghost use Rattle.std.specs.Prelude.{◌≡◌, ◌^◌, ◌≤◌, length};
 ghost use Rattle.refusals.specs.Put.{written, writing, over};
 ghost use Rattle.bill_table.specs.Table.{kept, read_table, word_at};
-ghost use Rattle.bill_table.specs.Worth.{is_absent, is_scale, is_usable, worth, meaning_of, total_of};
+ghost use Rattle.bill_table.specs.Worth.{is_absent, is_letter, is_scale, is_usable, worth, meaning_of, total_of};
 
-use numbers::byte_within;
 use refusals::{Put, Refusal};
 
 // The bytes of a table, those of a word, and how many words that makes.
@@ -56,41 +55,16 @@ pub enum Meaning {
     Valued(Value),
 }
 
-// What so many bills of a type are worth.
-#[derive(Clone, Copy)]
-pub enum Total {
-    // The word says no value.
-    NoValue,
-    Sum(Value),
-    // More bills than any session takes in.
-    Refused(Refusal),
-}
-
 // Lays the bytes at the start of the room.
 fn lay(bytes: &[u8], room: &mut [u8])
     requires { length bytes.now ≤ length room.old }
     ensures { room.new ≡ over bytes.now room.old }
 {
-    let mut i: usize = 0;
-    while i < bytes.len() {
-        room[i] = bytes[i];
-        i += 1;
-    }
-}
-
-// Lays the bytes at the start of the room, if it holds them.
-fn put(bytes: &[u8], room: &mut [u8]) -> Put
-    ensures { written result room.new ≡ writing bytes.now room.old }
-{
-    let n = bytes.len();
-    if room.len() < n {
-        return Put::Refused(Refusal::Room);
-    }
-    lay(bytes, room);
-    Put::Bytes(n)
+    room[..bytes.len()].copy_from_slice(bytes);
 }
 
 // Reads a body of 0 to 120 bytes into the table: bytes that were not sent count as zero. A longer body is no table, and leaves the one that is there.
+#[tactic(auto, using(refusals::proofs::Rules::tests, crate::proofs::Filling::filled_over), unfolding(crate::specs::Table::read_table))]
 pub fn read(body: &[u8], table: &mut [u8; 120]) -> bool
     ensures { kept result table.new ≡ read_table body.now table.old }
 {
@@ -106,10 +80,15 @@ pub fn read(body: &[u8], table: &mut [u8; 120]) -> bool
 pub fn write(table: &[u8; 120], room: &mut [u8]) -> Put
     ensures { written result room.new ≡ writing table.now room.old }
 {
-    put(table, room)
+    if room.len() < SIZE {
+        return Err(Refusal::Room);
+    }
+    lay(table, room);
+    Ok(SIZE)
 }
 
 // The word of a bill type; that of no bill where there is no such type.
+#[tactic(auto, using(refusals::proofs::Rules::tests), unfolding(crate::specs::Table::word_at))]
 pub fn word_at(table: &[u8; 120], bill: usize) -> Word
     ensures { result ≡ word_at table.now bill }
 {
@@ -121,15 +100,10 @@ pub fn word_at(table: &[u8; 120], bill: usize) -> Word
         };
     }
     let at = WORD * bill;
-    let first = table[at];
-    let one = table[at + 1];
-    let two = table[at + 2];
-    let three = table[at + 3];
-    let last = table[at + 4];
     Word {
-        first,
-        letters: Letters(one, two, three),
-        last,
+        first: table[at],
+        letters: Letters(table[at + 1], table[at + 2], table[at + 3]),
+        last: table[at + 4],
     }
 }
 
@@ -137,47 +111,32 @@ pub fn word_at(table: &[u8; 120], bill: usize) -> Word
 fn is_absent(word: Word) -> bool
     ensures { result ≡ (is_absent word).test }
 {
-    let letters = word.letters;
-    if word.first != 0 {
-        return false;
-    }
-    if letters.0 != 0 {
-        return false;
-    }
-    if letters.1 != 0 {
-        return false;
-    }
-    if letters.2 != 0 {
-        return false;
-    }
-    word.last == 0
+    let Letters(one, two, three) = word.letters;
+    word.first == 0 && one == 0 && two == 0 && three == 0 && word.last == 0
 }
 
 // Does the last byte tell at most nine zeros, or at most nine places?
+#[tactic(auto, using(refusals::proofs::Rules::tests))]
 fn is_scale(last: u8) -> bool
     ensures { result ≡ (is_scale last).test }
 {
-    if byte_within(0, MOST_ZEROS, last) {
-        return true;
-    }
-    byte_within(PLACES, PLACES + MOST_ZEROS, last)
+    last <= MOST_ZEROS || (PLACES..=PLACES + MOST_ZEROS).contains(&last)
+}
+
+fn is_letter(b: u8) -> bool
+    ensures { result ≡ (is_letter b).test }
+{
+    b.is_ascii_uppercase()
 }
 
 // Are the letters A to Z, and the zeros or places at most nine?
 fn is_usable(word: Word) -> bool
     ensures { result ≡ (is_usable word).test }
 {
-    let letters = word.letters;
-    if !byte_within(b'A', b'Z', letters.0) {
-        return false;
-    }
-    if !byte_within(b'A', b'Z', letters.1) {
-        return false;
-    }
-    if !byte_within(b'A', b'Z', letters.2) {
-        return false;
-    }
-    is_scale(word.last)
+    is_letter(word.letters.0)
+        && is_letter(word.letters.1)
+        && is_letter(word.letters.2)
+        && is_scale(word.last)
 }
 
 // 10 with so many zeros less one: 1, 10, 100 and so on.
@@ -185,13 +144,7 @@ fn ten_to(zeros: u8) -> u64
     requires { zeros ≤ 9 }
     ensures { result ≡ 10 ^ zeros }
 {
-    let mut power: u64 = 1;
-    let mut i: u8 = 0;
-    while i < zeros {
-        power = power * 10;
-        i += 1;
-    }
-    power
+    10u64.pow(zeros as u32)
 }
 
 // What so many bills are worth, of a word that is usable. The largest, 1,000,000 times 255 with nine zeros, fits.
@@ -206,42 +159,46 @@ fn worth_of(word: Word, count: u32) -> Value
     if word.last < PLACES {
         let one = first * ten_to(word.last);
         let whole = bills * one;
-        return Value {
+        Value {
             whole,
             letters,
             decimals: 0,
-        };
-    }
-    let whole = bills * first;
-    Value {
-        whole,
-        letters,
-        decimals: (word.last - PLACES) as u64,
+        }
+    } else {
+        let whole = bills * first;
+        Value {
+            whole,
+            letters,
+            decimals: (word.last - PLACES) as u64,
+        }
     }
 }
 
 // What a word says of its bill type.
+#[tactic(auto, using(refusals::proofs::Rules::tests), unfolding(crate::specs::Worth::meaning_of))]
 pub fn meaning_of(word: Word) -> Meaning
     ensures { result ≡ meaning_of word }
 {
     if is_absent(word) {
-        return Meaning::NoBill;
+        Meaning::NoBill
+    } else if is_usable(word) {
+        Meaning::Valued(worth_of(word, 1))
+    } else {
+        Meaning::Unusable
     }
-    if is_usable(word) {
-        return Meaning::Valued(worth_of(word, 1));
-    }
-    Meaning::Unusable
 }
 
-// What so many bills of the type with that word are worth, to the last place.
-pub fn total_of(word: Word, count: u32) -> Total
+// What so many bills of the type with that word are worth, to the last place, if the word says a value. More bills than any session takes in are refused.
+#[tactic(auto, using(refusals::proofs::Rules::tests), unfolding(crate::specs::Worth::total_of))]
+pub fn total_of(word: Word, count: u32) -> Result<Option<Value>, Refusal>
     ensures { result ≡ total_of word count }
 {
     if MOST_BILLS < count {
-        return Total::Refused(Refusal::Range);
+        return Err(Refusal::Range);
     }
-    if is_usable(word) {
-        return Total::Sum(worth_of(word, count));
-    }
-    Total::NoValue
+    Ok(if is_usable(word) {
+        Some(worth_of(word, count))
+    } else {
+        None
+    })
 }

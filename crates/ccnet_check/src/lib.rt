@@ -9,7 +9,7 @@ ghost use Rattle.ccnet_check.specs.Check.{turns, check};
 pub fn with_byte(c: u16, b: u8) -> u16
     ensures { result ≡ turns 8 (bit_xor c b) }
 {
-    let x = c ^ (b as u16);
+    let x = c ^ b as u16;
     let spread = (x ^ (x << 4)) % 256;
     (x >> 8) ^ ((spread << 8) ^ (spread << 3) ^ (spread >> 4))
 }
@@ -19,10 +19,8 @@ pub fn check_of(s: &[u8]) -> u16
     ensures { result ≡ check s.now }
 {
     let mut c: u16 = 0;
-    let mut i: usize = 0;
-    while i < s.len() {
-        c = with_byte(c, s[i]);
-        i += 1;
+    for &b in s {
+        c = with_byte(c, b);
     }
     c
 }

@@ -1,10 +1,8 @@
 // What the body of a validator's answer says. Document 01, "CCNET frames".
 #![tactic(auto)]
 
-ghost use Rattle.std.specs.Prelude.{◌≡◌, cond};
+ghost use Rattle.std.specs.Prelude.{◌≡◌};
 ghost use Rattle.ccnet_class.specs.Class.{is_state, is_rejection, is_failure, is_type, one_byte, two_bytes, class_of};
-
-use numbers::byte_within;
 
 // The classes of answer bodies. ACK, NAK and illegal answer any command; the others but unknown and table are the listed poll answers. A bill type
 // is 0 to 23.
@@ -35,109 +33,75 @@ pub enum Class {
 const LAST_TYPE: u8 = 23;
 
 // Is it a state: 10h to 15h, 17h to 1Ah or 41h to 46h?
+#[tactic(auto, using(refusals::proofs::Rules::tests))]
 fn is_state(b: u8) -> bool
     ensures { result ≡ (is_state b).test }
 {
-    if byte_within(0x10, 0x15, b) {
-        return true;
-    }
-    if byte_within(0x17, 0x1A, b) {
-        return true;
-    }
-    byte_within(0x41, 0x46, b)
+    matches!(b, 0x10..=0x15 | 0x17..=0x1A | 0x41..=0x46)
 }
 
 // Is it a reason for rejecting: 60h to 6Ah or 6Ch?
+#[tactic(auto, using(refusals::proofs::Rules::tests))]
 fn is_rejection(b: u8) -> bool
     ensures { result ≡ (is_rejection b).test }
 {
-    if byte_within(0x60, 0x6A, b) {
-        return true;
-    }
-    b == 0x6C
+    matches!(b, 0x60..=0x6A | 0x6C)
 }
 
 // Does it say what failed: 50h to 56h or 5Fh?
+#[tactic(auto, using(refusals::proofs::Rules::tests))]
 fn is_failure(b: u8) -> bool
     ensures { result ≡ (is_failure b).test }
 {
-    if byte_within(0x50, 0x56, b) {
-        return true;
-    }
-    b == 0x5F
+    matches!(b, 0x50..=0x56 | 0x5F)
 }
 
 // Is it a bill type: 0 to 23?
+#[tactic(auto, using(refusals::proofs::Rules::tests))]
 fn is_type(b: u8) -> bool
     ensures { result ≡ (is_type b).test }
 {
-    byte_within(0, LAST_TYPE, b)
-}
-
-// The class, where the byte is one of those listed for it; else unknown.
-fn when_listed(listed: bool, class: Class) -> Class
-    ensures { result ≡ cond listed class Class.Unknown }
-{
-    if listed {
-        return class;
-    }
-    Class::Unknown
+    b <= LAST_TYPE
 }
 
 // What a body of one byte says.
+#[tactic(auto, using(refusals::proofs::Rules::tests), unfolding(crate::specs::Class::one_byte))]
 fn one_byte(b: u8) -> Class
     ensures { result ≡ one_byte b }
 {
-    if b == 0x00 {
-        return Class::Ack;
+    match b {
+        0x00 => Class::Ack,
+        0xFF => Class::Nak,
+        0x30 => Class::Illegal,
+        _ if is_state(b) => Class::State(b),
+        _ => Class::Unknown,
     }
-    if b == 0xFF {
-        return Class::Nak;
-    }
-    if b == 0x30 {
-        return Class::Illegal;
-    }
-    if is_state(b) {
-        return Class::State(b);
-    }
-    Class::Unknown
 }
 
 // What a body of two bytes says.
+#[tactic(auto, using(refusals::proofs::Rules::tests), unfolding(crate::specs::Class::two_bytes))]
 fn two_bytes(a: u8, b: u8) -> Class
     ensures { result ≡ two_bytes a b }
 {
-    if a == 0x1B {
-        return Class::Busy(b);
+    match a {
+        0x1B => Class::Busy(b),
+        0x1C if is_rejection(b) => Class::Rejecting(b),
+        0x47 if is_failure(b) => Class::Failing(b),
+        0x80 if is_type(b) => Class::Escrow(b),
+        0x81 if is_type(b) => Class::Stacked(b),
+        0x82 if is_type(b) => Class::Returned(b),
+        _ => Class::Unknown,
     }
-    if a == 0x1C {
-        return when_listed(is_rejection(b), Class::Rejecting(b));
-    }
-    if a == 0x47 {
-        return when_listed(is_failure(b), Class::Failing(b));
-    }
-    if a == 0x80 {
-        return when_listed(is_type(b), Class::Escrow(b));
-    }
-    if a == 0x81 {
-        return when_listed(is_type(b), Class::Stacked(b));
-    }
-    if a == 0x82 {
-        return when_listed(is_type(b), Class::Returned(b));
-    }
-    Class::Unknown
 }
 
 // What a body says.
+#[tactic(auto, unfolding(crate::specs::Class::class_of))]
 pub fn classify(body: &[u8]) -> Class
     ensures { result ≡ class_of body.now }
 {
-    let n = body.len();
-    if n == 1 {
-        return one_byte(body[0]);
+    match body {
+        &[b] => one_byte(b),
+        &[a, b] => two_bytes(a, b),
+        _ => Class::Unknown,
     }
-    if n == 2 {
-        return two_bytes(body[0], body[1]);
-    }
-    Class::Unknown
 }

@@ -7,7 +7,7 @@ use Rattle.refusals.proofs.Rules.{exactly}
 use Rattle.refusals.proofs.Writing.{writes}
 use Rattle.ccnet_frame.specs.Frame.{frame, frame_refusals, write_frame, faults, judge_sized, judge_frame}
 use Rattle.ccnet_frame.specs.Promises.{ExactlyWhen, InOrder}
-use Rattle.ccnet_frame.specs.declared.Judged.TheVariants.{Good, Refused}
+use Rattle.ccnet_frame.specs.Judged.{Good, Refused}
 
 pub exactly-when : ExactlyWhen
 unfolding write_frame judge_frame judge_sized faults

@@ -13,7 +13,7 @@ use Rattle.numbers.specs.Promises.{AllBytes}
 use Rattle.refusals.proofs.Rules.{certain, first-judged, none-judged, first_or_none}
 use Rattle.ccnet_check.specs.Check.{check}
 use Rattle.ccnet_frame.specs.Frame.{closed, framed, frame, is_address, reader_faults, judge_sized, is_sized, judge_frame, body_of}
-use Rattle.ccnet_frame.specs.declared.Judged.TheVariants.{Good, Refused}
+use Rattle.ccnet_frame.specs.Judged.{Good, Refused}
 
 -- ---- bytes and their check
 

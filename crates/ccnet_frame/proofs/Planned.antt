@@ -8,7 +8,7 @@ use native.Mathlib.Omega.{arith}
 use lib.ListN.{length}
 use Rattle.refusals.specs.Rules.{Condition, Rule, within, judged}
 use Rattle.refusals.specs.Put.{Written, written, writing, refused, laid, over}
-use Rattle.refusals.specs.declared.Put.TheVariants.{Bytes, Refused}
+use Rattle.refusals.specs.Put.{Bytes, Refused}
 use Rattle.refusals.specs.declared.Refusal.{Refusal}
 use Rattle.refusals.proofs.Rules.{certain, exactly, first-judged, none-judged, first_or_none}
 use Rattle.ccnet_frame.specs.Frame.{closed, framed, frame, writer_refusals, frame_refusals, write_frame}

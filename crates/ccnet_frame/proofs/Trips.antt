@@ -7,13 +7,13 @@ use lib.ListN.{length, take}
 use Rattle.refusals.specs.Rules.{within}
 use Rattle.refusals.specs.Put.{written, refused, laid}
 use Rattle.numbers.specs.Promises.{AllBytes}
-use Rattle.refusals.specs.declared.Put.TheVariants.{Bytes}
+use Rattle.refusals.specs.Put.{Bytes}
 use Rattle.refusals.specs.declared.Refusal.{Refusal}
 use Rattle.refusals.proofs.Rules.{certain, none-judged}
 use Rattle.refusals.proofs.Writing.{done-laid, take-over}
 use Rattle.ccnet_frame.specs.Frame.{frame, is_address, frame_refusals, write_frame, judge_frame, body_of}
 use Rattle.ccnet_frame.specs.Promises.{FrameTrips, BodyTells}
-use Rattle.ccnet_frame.specs.declared.Judged.TheVariants.{Good}
+use Rattle.ccnet_frame.specs.Judged.{Good}
 use Rattle.ccnet_frame.proofs.Frames.{frame-judged, frame-body, good-long, good-address, good-size, good-most, good-frame}
 
 -- what was put is a frame, with an address and a body in their ranges

@@ -8,8 +8,8 @@ use Rattle.refusals.specs.declared.Refusal.TheVariants.{Room, Range}
 use Rattle.ccnet_check.specs.Check.{check}
 use Rattle.ccnet_frame.specs.declared.Fault.{Fault}
 use Rattle.ccnet_frame.specs.declared.Fault.TheVariants.{Length, Opening, Check}
-use Rattle.ccnet_frame.specs.declared.Judged.{Judged}
-use Rattle.ccnet_frame.specs.declared.Judged.TheVariants.{Good, Refused}
+use Rattle.ccnet_frame.specs.Judged.{Judged}
+use Rattle.ccnet_frame.specs.Judged.{Good, Refused}
 
 -- 01's number for each fault
 abbrev pub fault_number : Fault → ℕ

@@ -4,3 +4,4 @@ pub mod Part
 pub mod Parts
 pub mod Promises
 pub mod Noise
+pub mod Judged

@@ -3,7 +3,7 @@ use Rattle.std.specs.Prelude.{ℕ, zero, suc, ◌+◌, ◌-◌, ◌*◌, ◌/◌
 use Rattle.numbers.specs.Promises.{AllBytes}
 use Rattle.ccnet_check.specs.Check.{check}
 use Rattle.ccnet_frame.specs.Frame.{judge_frame}
-use Rattle.ccnet_frame.specs.declared.Judged.TheVariants.{Good}
+use Rattle.ccnet_frame.specs.Judged.{Good}
 
 -- the n low bits of a byte, bit 0 first
 unfoldable pub low_bits : ℕ → ℕ → List ℕ

@@ -4,10 +4,10 @@ use Rattle.refusals.specs.Rules.{Exactly, numbered}
 use Rattle.refusals.specs.Numbers.{refusal_number}
 use Rattle.refusals.specs.Put.{written, refused, laid}
 use Rattle.numbers.specs.Promises.{AllBytes}
-use Rattle.refusals.specs.declared.Put.TheVariants.{Bytes}
+use Rattle.refusals.specs.Put.{Bytes}
 use Rattle.ccnet_frame.specs.Frame.{fault_number, frame, frame_refusals, write_frame, faults, judge_frame, body_of}
 use Rattle.ccnet_frame.specs.declared.Fault.{Fault}
-use Rattle.ccnet_frame.specs.declared.Judged.TheVariants.{Good, Refused}
+use Rattle.ccnet_frame.specs.Judged.{Good, Refused}
 
 -- reading undoes writing, for every address and every body: what was put is good, with its address and its body. And whatever is good,
 -- written again with its address and its body, is the same bytes. A command's body is its code and data

@@ -11,7 +11,6 @@ ghost use Rattle.ccnet_frame.specs.Part.{Part};
 ghost use Rattle.ccnet_frame.specs.Parts.{planned};
 
 use ccnet_check::{check_of, with_byte};
-use numbers::byte_within;
 use refusals::{Put, Refusal};
 
 // The byte that every frame begins with.
@@ -47,18 +46,11 @@ impl Fault {
     }
 }
 
-// What judging a frame finds.
-#[derive(Clone, Copy)]
-pub enum Judged {
-    Good { address: u8 },
-    Refused(Fault),
-}
-
 // Is it an address: 01h to 0Fh?
 fn is_address(b: u8) -> bool
     ensures { result ≡ (is_address b).test }
 {
-    byte_within(0x01, 0x0F, b)
+    (0x01..=0x0F).contains(&b)
 }
 
 // Lays the bytes at the start of the room, and says the check after them; c is the check before them.
@@ -67,13 +59,10 @@ fn put(bytes: &[u8], c: u16, room: &mut [u8]) -> u16
     ensures { (result ≡ check_from c bytes.now)
         × (room.new ≡ over bytes.now room.old) }
 {
+    room[..bytes.len()].copy_from_slice(bytes);
     let mut sum = c;
-    let mut i: usize = 0;
-    while i < bytes.len() {
-        let b = bytes[i];
-        room[i] = b;
+    for &b in bytes {
         sum = with_byte(sum, b);
-        i += 1;
     }
     sum
 }
@@ -93,29 +82,27 @@ pub fn lay(head: &[u8], body: &[u8], room: &mut [u8])
 
 // How long a frame of n bytes with that address is, or why it is not to be written into a room of that size; sized says whether a
 // frame may have n bytes.
+#[tactic(auto, using(refusals::proofs::Rules::tests), unfolding(crate::specs::Parts::planned))]
 pub fn plan(sized: bool, n: usize, address: u8, room: usize) -> Put
     ensures { result ≡ planned sized n address room }
 {
     if !sized {
-        return Put::Refused(Refusal::Range);
+        return Err(Refusal::Range);
     }
     if room < n {
-        return Put::Refused(Refusal::Room);
+        return Err(Refusal::Room);
     }
-    if is_address(address) {
-        return Put::Bytes(n);
+    if !is_address(address) {
+        return Err(Refusal::Range);
     }
-    Put::Refused(Refusal::Range)
+    Ok(n)
 }
 
 // May a body have that size: 1 to 250?
 fn is_body(size: usize) -> bool
     ensures { result ≡ (within 1 250 size).test }
 {
-    if size < 1 {
-        return false;
-    }
-    size <= MOST_BODY
+    (1..=MOST_BODY).contains(&size)
 }
 
 // Writes an answer's frame at the start of the room: a body of 1 to 250 bytes. A refusal leaves the room as it was.
@@ -123,14 +110,9 @@ pub fn write_answer(address: u8, body: &[u8], room: &mut [u8]) -> Put
     ensures { written result room.new ≡ write_frame address body.now room.old }
 {
     let size = body.len();
-    match plan(is_body(size), 5 + size, address, room.len()) {
-        Put::Bytes(n) => {
-            let length_byte = n as u8;
-            lay(&[START, address, length_byte], body, room);
-            Put::Bytes(n)
-        }
-        Put::Refused(why) => Put::Refused(why),
-    }
+    let n = plan(is_body(size), 5 + size, address, room.len())?;
+    lay(&[START, address, n as u8], body, room);
+    Ok(n)
 }
 
 // Writes a command's frame at the start of the room: its code and 0 to 249 data bytes. Any code is taken. A refusal leaves the room as
@@ -139,14 +121,9 @@ pub fn write_command(address: u8, code: u8, given: &[u8], room: &mut [u8]) -> Pu
     ensures { written result room.new ≡ write_frame address (code ∷ given.now) room.old }
 {
     let size = 1 + given.len();
-    match plan(is_body(size), 5 + size, address, room.len()) {
-        Put::Bytes(n) => {
-            let length_byte = n as u8;
-            lay(&[START, address, length_byte, code], given, room);
-            Put::Bytes(n)
-        }
-        Put::Refused(why) => Put::Refused(why),
-    }
+    let n = plan(is_body(size), 5 + size, address, room.len())?;
+    lay(&[START, address, n as u8, code], given, room);
+    Ok(n)
 }
 
 // Writes ACK at the start of the room.
@@ -167,50 +144,43 @@ pub fn write_nak(room: &mut [u8]) -> Put
 pub fn word(low: u8, high: u8) -> u16
     ensures { result ≡ low + 256 * high }
 {
-    (low as u16) + 256 * (high as u16)
+    low as u16 + 256 * high as u16
 }
 
 // The byte at a place; 0 where there is none.
 pub fn byte_at(s: &[u8], at: usize) -> u8
     ensures { result ≡ get_or s.now at 0 }
 {
-    if at < s.len() {
-        return s[at];
-    }
-    0
+    s.get(at).copied().unwrap_or(0)
 }
 
-// Judges a frame of which sized says whether its length is right.
-pub fn judge_sized(s: &[u8], sized: bool) -> Judged
+// Judges a frame of which sized says whether its length is right, and says its address.
+#[tactic(auto, using(refusals::proofs::Rules::tests), unfolding(crate::specs::Frame::judge_sized))]
+pub fn judge_sized(s: &[u8], sized: bool) -> Result<u8, Fault>
     ensures { result ≡ judge_sized (says sized) s.now }
 {
     let n = s.len();
     if n < 6 {
-        return Judged::Refused(Fault::Length);
+        return Err(Fault::Length);
     }
-    if s[0] != START {
-        return Judged::Refused(Fault::Opening);
-    }
-    let address = s[1];
-    if !is_address(address) {
-        return Judged::Refused(Fault::Opening);
+    if s[0] != START || !is_address(s[1]) {
+        return Err(Fault::Opening);
     }
     if !sized {
-        return Judged::Refused(Fault::Length);
+        return Err(Fault::Length);
     }
     let end = n - 2;
-    if check_of(&s[..end]) != word(s[end], s[n - 1]) {
-        return Judged::Refused(Fault::Check);
+    if check_of(&s[..end]) != word(s[end], s[end + 1]) {
+        return Err(Fault::Check);
     }
-    Judged::Good { address }
+    Ok(s[1])
 }
 
-// Judges a frame.
-pub fn judge(s: &[u8]) -> Judged
+// Judges a frame, and says its address.
+pub fn judge(s: &[u8]) -> Result<u8, Fault>
     ensures { result ≡ judge_frame s.now }
 {
-    let length_byte = byte_at(s, 2) as usize;
-    judge_sized(s, length_byte == s.len())
+    judge_sized(s, byte_at(s, 2) as usize == s.len())
 }
 
 // The body of a good frame, as a part of the caller's own bytes; an empty part where the frame is refused.
@@ -218,10 +188,7 @@ pub fn body<'a>(s: &'a [u8]) -> &'a [u8]
     ensures { Part s.entry (body_start (judge_frame s.now)) (body_size (judge_frame s.now) (length s.now)) result }
 {
     match judge(s) {
-        Judged::Good { address: _ } => {
-            let end = s.len() - 2;
-            &s[3..end]
-        }
-        Judged::Refused(_) => &s[0..0],
+        Ok(_) => &s[3..s.len() - 2],
+        Err(_) => &s[..0],
     }
 }

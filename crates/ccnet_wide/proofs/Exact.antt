@@ -7,7 +7,7 @@ use Rattle.refusals.proofs.Rules.{exactly}
 use Rattle.refusals.proofs.Writing.{writes}
 use Rattle.ccnet_wide.specs.Wide.{wide_frame, wide_refusals, write_wide, lead_at, wide_faults, judge_wide}
 use Rattle.ccnet_wide.specs.Promises.{ExactlyWhen, InOrder}
-use Rattle.ccnet_wide.specs.declared.Judged.TheVariants.{Good, Refused}
+use Rattle.ccnet_wide.specs.Judged.{Good, Refused}
 
 pub exactly-when : ExactlyWhen
 unfolding write_wide judge_wide

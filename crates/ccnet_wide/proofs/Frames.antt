@@ -1,4 +1,5 @@
 -- A wide frame laid out passes every test in its form, and bytes that pass every test in a form are laid out so. Assumes nothing.
+use Rattle.std.proofs.lemmas.Result.{IfOk-at_ok}
 use Prim.Native.Nat.{ℕ, suc, ◌+◌, ◌-◌, ◌*◌, ◌/◌, ◌%◌, ◌≤◌}
 use mathlib.Core.Path.{◌≡◌, refl, sym, ap, ap₂, ◌∙◌}
 use mathlib.Core.Bool.{Bool, true, false, cond}
@@ -10,16 +11,16 @@ use Rattle.refusals.specs.Rules.{Rule, judged}
 use Rattle.numbers.specs.Promises.{AllBytes}
 use Rattle.ccnet_frame.specs.Frame.{closed, framed, is_address, judge_sized}
 use Rattle.ccnet_frame.specs.declared.Fault.{Fault}
-use Rattle.ccnet_frame.specs.declared.Judged.{Judged as Narrow}
-use Rattle.ccnet_frame.specs.declared.Judged.TheVariants.{Good as NarrowGood, Refused as NarrowRefused}
+use Rattle.ccnet_frame.specs.Judged.{Judged as Narrow}
+use Rattle.ccnet_frame.specs.Judged.{Good as NarrowGood, Refused as NarrowRefused}
 use Rattle.ccnet_frame.proofs.Frames.{Passed, passed, between, framed-length, framed-judged}
 use Rattle.ccnet_wide.specs.Wide.{lead_bytes, wide_rest, wide_length, wide_frame, form_of, lead_at, length_place, true_length, is_sized, wide_faults, judge_wide, data_of}
 use Rattle.ccnet_wide.specs.declared.Form.{Form}
 use Rattle.ccnet_wide.specs.declared.Form.TheVariants.{AfterCode, AfterSubcommand, AtOnce}
 use Rattle.ccnet_wide.specs.declared.Lead.{Lead}
 use Rattle.ccnet_wide.specs.declared.Lead.TheVariants.{Code, Subcommand, Nothing}
-use Rattle.ccnet_wide.specs.declared.Judged.{Judged}
-use Rattle.ccnet_wide.specs.declared.Judged.TheVariants.{Good, Refused}
+use Rattle.ccnet_wide.specs.Judged.{Judged}
+use Rattle.ccnet_wide.specs.Judged.{Good, Refused}
 
 -- ---- what stands before the true length
 
@@ -155,8 +156,8 @@ good-read form s address lead good = by (judge_sized (is_sized form s) s) refl
     by : (x : Narrow) → judge_sized (is_sized form s) s ≡ x → Read form s address lead
     by (NarrowGood a) e =
         let r : Good a (lead_at form s) ≡ Good address lead = ap (with_lead (lead_at form s)) (sym e) ∙ judged-wide form s ∙ good in
-        let f : a ≡ address = cc in
-        record { is = cc; tested = passed (is_sized form s) s address (e ∙ ap NarrowGood f) }
+        let f : a ≡ address = IfOk-at_ok (λ x. a ≡ x.address) r refl in
+        record { is = IfOk-at_ok (λ x. x.lead ≡ lead_at form s) r refl; tested = passed (is_sized form s) s address (e ∙ ap NarrowGood f) }
     by (NarrowRefused why) e =
         let r : Refused why ≡ Good address lead = ap (with_lead (lead_at form s)) (sym e) ∙ judged-wide form s ∙ good in
         absurd (let z : ◌≡◌ {A = ℕ} 0 1 = cc in omega arith)

@@ -7,7 +7,7 @@ use native.Mathlib.Omega.{arith}
 use lib.ListN.{length}
 use Rattle.refusals.specs.Rules.{within}
 use Rattle.refusals.specs.Put.{written, refused, over}
-use Rattle.refusals.specs.declared.Put.TheVariants.{Bytes, Refused}
+use Rattle.refusals.specs.Put.{Bytes, Refused}
 use Rattle.refusals.specs.declared.Refusal.{Refusal}
 use Rattle.ccnet_frame.specs.Frame.{framed}
 use Rattle.ccnet_frame.specs.Parts.{planned}

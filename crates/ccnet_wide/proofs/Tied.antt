@@ -3,7 +3,7 @@
 use Prim.Native.Nat.{ℕ}
 use mathlib.Core.Path.{ap, ap₂}
 use mathlib.Core.List.{List}
-use Rattle.refusals.specs.declared.Put.{Put}
+use Rattle.refusals.specs.Put.{Put}
 use Rattle.refusals.proofs.Tied.{Tied, tied}
 use Rattle.ccnet_wide.proofs.data_of.Kinds as data_of
 use Rattle.ccnet_wide.proofs.data_of.Reads as data-of-reads

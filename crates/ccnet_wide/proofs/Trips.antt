@@ -7,7 +7,7 @@ use native.Mathlib.Omega.{arith}
 use lib.ListN.{length, take}
 use Rattle.refusals.specs.Rules.{within}
 use Rattle.refusals.specs.Put.{written, refused, laid}
-use Rattle.refusals.specs.declared.Put.TheVariants.{Bytes}
+use Rattle.refusals.specs.Put.{Bytes}
 use Rattle.refusals.specs.declared.Refusal.{Refusal}
 use Rattle.refusals.proofs.Rules.{certain, none-judged}
 use Rattle.refusals.proofs.Writing.{done-laid, take-over}
@@ -18,7 +18,7 @@ use Rattle.ccnet_wide.specs.Wide.{wide_length, wide_frame, wide_refusals, write_
 use Rattle.ccnet_wide.specs.Promises.{WideTrips, FormKept, DataTells, OneLengthForm}
 use Rattle.ccnet_wide.specs.declared.Form.{Form}
 use Rattle.ccnet_wide.specs.declared.Lead.{Lead}
-use Rattle.ccnet_wide.specs.declared.Judged.TheVariants.{Good}
+use Rattle.ccnet_wide.specs.Judged.{Good}
 use Rattle.ccnet_wide.proofs.Frames.{lead-most, lead-form, wide-judged, wide-data, good-lead, good-address, good-zero, good-long, good-most, good-size, good_length, good-frame}
 
 -- what was put is a wide frame, with an address and a length in their ranges

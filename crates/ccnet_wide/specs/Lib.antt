@@ -2,3 +2,4 @@
 pub mod Wide
 pub mod Promises
 pub mod Noise
+pub mod Judged

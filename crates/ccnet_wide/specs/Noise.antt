@@ -4,11 +4,11 @@ use Rattle.std.specs.Prelude.{ℕ, ◌≡◌, List, length}
 use Rattle.numbers.specs.Promises.{AllBytes}
 use Rattle.ccnet_frame.specs.Frame.{judge_frame}
 use Rattle.ccnet_frame.specs.Noise.{Within16}
-use Rattle.ccnet_frame.specs.declared.Judged.TheVariants.{Good as NarrowGood}
+use Rattle.ccnet_frame.specs.Judged.{Good as NarrowGood}
 use Rattle.ccnet_wide.specs.Wide.{judge_wide}
 use Rattle.ccnet_wide.specs.declared.Form.{Form}
 use Rattle.ccnet_wide.specs.declared.Lead.{Lead}
-use Rattle.ccnet_wide.specs.declared.Judged.TheVariants.{Good}
+use Rattle.ccnet_wide.specs.Judged.{Good}
 
 -- a frame that a reader takes: the narrow one, or the wide one, whichever form it is told
 pub data Taken (s : List ℕ) : Type 0 where

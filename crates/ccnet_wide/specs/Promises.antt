@@ -3,15 +3,15 @@ use Rattle.std.specs.Prelude.{ℕ, ◌≤◌, ◌≡◌, List, [], ◌∷◌, le
 use Rattle.refusals.specs.Rules.{Exactly, numbered}
 use Rattle.refusals.specs.Numbers.{refusal_number}
 use Rattle.refusals.specs.Put.{written, refused, laid}
-use Rattle.refusals.specs.declared.Put.TheVariants.{Bytes}
+use Rattle.refusals.specs.Put.{Bytes}
 use Rattle.numbers.specs.Promises.{AllBytes}
 use Rattle.ccnet_frame.specs.Frame.{fault_number, judge_frame}
 use Rattle.ccnet_frame.specs.declared.Fault.{Fault}
-use Rattle.ccnet_frame.specs.declared.Judged.TheVariants.{Good as NarrowGood}
+use Rattle.ccnet_frame.specs.Judged.{Good as NarrowGood}
 use Rattle.ccnet_wide.specs.Wide.{wide_frame, wide_refusals, write_wide, form_of, lead_at, wide_faults, judge_wide, data_of}
 use Rattle.ccnet_wide.specs.declared.Form.{Form}
 use Rattle.ccnet_wide.specs.declared.Lead.{Lead}
-use Rattle.ccnet_wide.specs.declared.Judged.TheVariants.{Good, Refused}
+use Rattle.ccnet_wide.specs.Judged.{Good, Refused}
 
 -- reading undoes writing, for every form, address and data: what was put is good in its form, with its address, what it has before its true
 -- length, and its data. And whatever is good in a form, written again with those, is the same bytes

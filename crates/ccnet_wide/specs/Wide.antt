@@ -1,6 +1,6 @@
 -- The wide form of CCNET frames (02, Q-11): laid out once for its three forms, and tested. What it shares with the narrow form, the opening, the
 -- check and the order of tests, is that form's own definition (`framed`, `reader_faults`, `writer_refusals`).
-use Rattle.std.specs.Prelude.{ℕ, ◌+◌, ◌-◌, ◌*◌, ◌/◌, ◌%◌, List, [], ◌∷◌, ◌++◌, length, get_or, take, drop}
+use Rattle.std.specs.Prelude.{ℕ, ◌+◌, ◌-◌, ◌*◌, ◌/◌, ◌%◌, List, [], ◌∷◌, ◌++◌, length, get_or, take, drop, Ok}
 use Rattle.refusals.specs.Rules.{Condition, Rule, same, at_most, within, both, judged}
 use Rattle.refusals.specs.Put.{Written, refused, laid}
 use Rattle.refusals.specs.declared.Refusal.{Refusal}
@@ -10,8 +10,8 @@ use Rattle.ccnet_wide.specs.declared.Form.{Form}
 use Rattle.ccnet_wide.specs.declared.Form.TheVariants.{AfterCode, AfterSubcommand, AtOnce}
 use Rattle.ccnet_wide.specs.declared.Lead.{Lead}
 use Rattle.ccnet_wide.specs.declared.Lead.TheVariants.{Code, Subcommand, Nothing}
-use Rattle.ccnet_wide.specs.declared.Judged.{Judged}
-use Rattle.ccnet_wide.specs.declared.Judged.TheVariants.{Good, Refused}
+use Rattle.ccnet_wide.specs.Judged.{Judged}
+use Rattle.ccnet_wide.specs.Judged.{Good, Refused}
 
 -- ---- the layout
 
@@ -82,11 +82,11 @@ judge_wide form s = judged (wide_faults form s) Refused (Good (get_or s 1 0) (le
 
 -- where a judged frame's data stand in it, and how many they are; nothing, at the start, where the frame is refused
 abbrev pub data_start : Judged → ℕ
-data_start (Good address lead) = 5 + length (lead_bytes lead)
+data_start (Ok head) = 5 + length (lead_bytes head.lead)
 data_start (Refused fault) = 0
 
 abbrev pub data_size : Judged → ℕ → ℕ
-data_size (Good address lead) n = n - wide_length lead 0
+data_size (Ok head) n = n - wide_length head.lead 0
 data_size (Refused fault) n = 0
 
 abbrev pub data_of : Form → List ℕ → List ℕ

@@ -34,11 +34,11 @@ pub enum Lead {
     Nothing,
 }
 
-// What judging a wide frame finds.
+// What a good wide frame begins with.
 #[derive(Clone, Copy)]
-pub enum Judged {
-    Good { address: u8, lead: Lead },
-    Refused(Fault),
+pub struct Head {
+    pub address: u8,
+    pub lead: Lead,
 }
 
 // How many bytes stand before the true length, behind the length byte.
@@ -47,22 +47,17 @@ fn lead_size(lead: Lead) -> usize
 {
     match lead {
         Lead::Code(_) => 1,
-        Lead::Subcommand {
-            code: _,
-            subcommand: _,
-        } => 2,
+        Lead::Subcommand { .. } => 2,
         Lead::Nothing => 0,
     }
 }
 
 // May a wide frame have that length?
+#[tactic(auto, using(refusals::proofs::Rules::tests))]
 fn is_wide(n: usize) -> bool
     ensures { result ≡ (within 256 65535 n).test }
 {
-    if n < LEAST {
-        return false;
-    }
-    n <= MOST
+    (LEAST..=MOST).contains(&n)
 }
 
 // Lays a frame whose true length is n at the start of the room.
@@ -74,13 +69,11 @@ fn lay_wide(address: u8, lead: Lead, n: u16, given: &[u8], room: &mut [u8])
     let low = (n % 256) as u8;
     match lead {
         Lead::Code(code) => lay(&[START, address, 0, code, high, low], given, room),
-        Lead::Subcommand { code, subcommand } => {
-            lay(
-                &[START, address, 0, code, subcommand, high, low],
-                given,
-                room,
-            )
-        }
+        Lead::Subcommand { code, subcommand } => lay(
+            &[START, address, 0, code, subcommand, high, low],
+            given,
+            room,
+        ),
         Lead::Nothing => lay(&[START, address, 0, high, low], given, room),
     }
 }
@@ -91,13 +84,9 @@ pub fn write(address: u8, lead: Lead, given: &[u8], room: &mut [u8]) -> Put
     ensures { written result room.new ≡ write_wide address lead given.now room.old }
 {
     let length = 7 + lead_size(lead) + given.len();
-    match plan(is_wide(length), length, address, room.len()) {
-        Put::Bytes(n) => {
-            lay_wide(address, lead, n as u16, given, room);
-            Put::Bytes(n)
-        }
-        Put::Refused(why) => Put::Refused(why),
-    }
+    let n = plan(is_wide(length), length, address, room.len())?;
+    lay_wide(address, lead, n as u16, given, room);
+    Ok(n)
 }
 
 // Where the true length stands.
@@ -115,48 +104,38 @@ fn length_place(form: Form) -> usize
 fn lead_at(form: Form, s: &[u8]) -> Lead
     ensures { result ≡ lead_at form s.now }
 {
-    let first = byte_at(s, 3);
-    let second = byte_at(s, 4);
     match form {
-        Form::AfterCode => Lead::Code(first),
-        Form::AfterSubcommand => {
-            Lead::Subcommand {
-                code: first,
-                subcommand: second,
-            }
-        }
+        Form::AfterCode => Lead::Code(byte_at(s, 3)),
+        Form::AfterSubcommand => Lead::Subcommand {
+            code: byte_at(s, 3),
+            subcommand: byte_at(s, 4),
+        },
         Form::AtOnce => Lead::Nothing,
     }
 }
 
 // Is the length right: the length byte 0, and a true length of 256 or more that is that of the bytes given?
+#[tactic(auto, using(refusals::proofs::Rules::tests))]
 fn is_sized(form: Form, s: &[u8]) -> bool
     ensures { result ≡ (is_sized form s.now).test }
 {
-    if byte_at(s, 2) != 0 {
-        return false;
-    }
     let at = length_place(form);
-    if s.len() < at + 2 {
+    if byte_at(s, 2) != 0 || s.len() < at + 2 {
         return false;
     }
-    let next = at + 1;
-    let said = word(s[next], s[at]) as usize;
-    if said < LEAST {
-        return false;
-    }
-    said == s.len()
+    let said = word(s[at + 1], s[at]) as usize;
+    said >= LEAST && said == s.len()
 }
 
-// Judges a frame of the form that the caller says.
-pub fn judge(form: Form, s: &[u8]) -> Judged
+// Judges a frame of the form that the caller says, and says what it begins with.
+pub fn judge(form: Form, s: &[u8]) -> Result<Head, Fault>
     ensures { result ≡ judge_wide form s.now }
 {
-    let lead = lead_at(form, s);
-    match judge_sized(s, is_sized(form, s)) {
-        ccnet_frame::Judged::Good { address } => Judged::Good { address, lead },
-        ccnet_frame::Judged::Refused(why) => Judged::Refused(why),
-    }
+    let address = judge_sized(s, is_sized(form, s))?;
+    Ok(Head {
+        address,
+        lead: lead_at(form, s),
+    })
 }
 
 // The data of a good frame, as a part of the caller's own bytes; an empty part where the frame is refused.
@@ -164,11 +143,10 @@ pub fn data_of<'a>(form: Form, s: &'a [u8]) -> &'a [u8]
     ensures { Part s.entry (data_start (judge_wide form s.now)) (data_size (judge_wide form s.now) (length s.now)) result }
 {
     match judge(form, s) {
-        Judged::Good { address: _, lead } => {
-            let start = 5 + lead_size(lead);
-            let end = s.len() - 2;
-            &s[start..end]
+        Ok(head) => {
+            let start = 5 + lead_size(head.lead);
+            &s[start..s.len() - 2]
         }
-        Judged::Refused(_) => &s[0..0],
+        Err(_) => &s[..0],
     }
 }

@@ -1,9 +1,8 @@
 -- A look at two files that goes on comes nearer to their end.
-use Rattle.std.specs.Prelude.{◌≤◌, ◌<◌}
-use Rattle.compare.specs.declared.Look.{Look}
-use Rattle.compare.specs.declared.Look.TheVariants.{On, Done}
+use Rattle.std.specs.Prelude.{◌≤◌, ◌<◌, Option, Some, None}
+use Rattle.compare.specs.declared.Passed.{Passed}
 
 -- it passes over some bytes, a window at most, and no more records than bytes
-abbrev pub Progress : Look → Type 0
-Progress (On bytes records) = (0 < bytes) × (bytes ≤ 65_536) × (records ≤ bytes)
-Progress Done = Unit {0}
+abbrev pub Progress : Option Passed → Type 0
+Progress (Some x) = (0 < x.bytes) × (x.bytes ≤ 65_536) × (x.records ≤ x.bytes)
+Progress None = Unit {0}

@@ -28,11 +28,8 @@ fn main(rt: HostRuntime) {
 
 // Every two arguments, behind the program's own name.
 fn each(rt: HostRuntime, count: usize) {
-    let mut left = count;
-    while 2 < left {
-        let student = count - left + 1;
+    for student in (1..count.saturating_sub(1)).step_by(2) {
         opened(rt, student, student + 1);
-        left -= 2;
     }
 }
 
@@ -69,31 +66,26 @@ fn both(rt: HostRuntime, student: &[u8], reference: &[u8]) {
 fn compare_files(rt: HostRuntime, s: &File, r: &File, student: &[u8], reference: &[u8]) {
     let mut at: usize = 0;
     let mut records: usize = 0;
+    // No `for`: each look says how much it passes over.
     while at <= MOST {
-        match look_at(rt, s, r, student, reference, at, records) {
-            Look::On(bytes, more) => {
-                at += bytes;
-                records += more;
-            }
-            Look::Done => {
-                return;
-            }
-        }
+        let Some(passed) = look_at(rt, s, r, student, reference, at, records) else {
+            return;
+        };
+        at += passed.bytes;
+        records += passed.records;
     }
     let _ = Write::write_all(&mut rt.stderr(), student);
     let _ = eprintln!(rt; ": over 4,294,967,295 bytes, and no difference in them");
 }
 
-// What a look at two files from the end of a record on brings.
+// So many bytes, and records, that a look from the end of a record on finds the same in both files.
 #[derive(Clone, Copy)]
-pub(crate) enum Look {
-    // So many bytes, and records, are the same in both.
-    On(usize, usize),
-    // All is said.
-    Done,
+pub(crate) struct Passed {
+    bytes: usize,
+    records: usize,
 }
 
-// Behind `at` bytes, which are so many records: a window of each.
+// Behind `at` bytes, which are so many records: a window of each. None where all is said.
 fn look_at(
     rt: HostRuntime,
     s: &File,
@@ -102,7 +94,7 @@ fn look_at(
     reference: &[u8],
     at: usize,
     records: usize,
-) -> Look
+) -> Option<Passed>
     requires { at ≤ 4_294_967_295 }
     ensures { Progress result }
 {
@@ -111,7 +103,7 @@ fn look_at(
         Ok(n) => look_beside(rt, r, &a[0..n], reference, at, records),
         Err(why) => {
             files::fail(&mut rt.stderr(), student, why);
-            Look::Done
+            None
         }
     }
 }
@@ -124,7 +116,7 @@ fn look_beside(
     reference: &[u8],
     at: usize,
     records: usize,
-) -> Look
+) -> Option<Passed>
     requires at_bound { at ≤ 4_294_967_295 }
     requires window_bound { length student.now ≤ 65_536 }
     ensures { Progress result }
@@ -134,7 +126,7 @@ fn look_beside(
         Ok(m) => compare_windows(rt, student, &b[0..m], at, records),
         Err(why) => {
             files::fail(&mut rt.stderr(), reference, why);
-            Look::Done
+            None
         }
     }
 }
@@ -146,7 +138,7 @@ fn compare_windows(
     reference: &[u8],
     at: usize,
     records: usize,
-) -> Look
+) -> Option<Passed>
     requires { length student.now ≤ 65_536 }
     ensures { Progress result }
 {
@@ -154,10 +146,13 @@ fn compare_windows(
     let bytes = found.at;
     let more = found.records;
     if 0 < bytes {
-        return Look::On(bytes, more);
+        return Some(Passed {
+            bytes,
+            records: more,
+        });
     }
     let _ = sheet_parted::print_parted(&mut rt.stdout(), found, student, reference, at, records);
-    Look::Done
+    None
 }
 
 // Reads from an offset on until the room is full or the file ends, and answers how many bytes that were, or why a read fails.
@@ -167,6 +162,7 @@ fn read_window(file: &File, from: usize, room: &mut [u8]) -> io::Result<usize>
     ensures { IfOk result (λ n. n ≤ length room.new) }
 {
     let mut at: usize = 0;
+    // No `for`: each read says how far it goes.
     while at < room.len() {
         let n = file.read_at(&mut room[at..], (from + at) as u64)?;
         if n == 0 {

@@ -6,41 +6,42 @@ ghost use Rattle.dispenser_rules.specs.Session.{closed_by, booked_by, request_bo
 use dispenser_frame_rules::{Answer, Cassette};
 use dispenser_rules::{Asked, Cassettes, Closing, Reply};
 use exchange::sums;
+use exchange_rules::Sums;
+
+// What `change` makes of each cassette's sums and of the notes that were asked of it.
+fn each<F: Fn(Sums, u32) -> Sums>(was: Cassettes, asked: Asked, change: F) -> Cassettes
+    requires { F.IsAlwaysCallable change }
+    ensures upper { F.post change was.upper asked.upper result.upper }
+    ensures lower { F.post change was.lower asked.lower result.lower }
+{
+    Cassettes {
+        upper: change(was.upper, asked.upper),
+        lower: change(was.lower, asked.lower),
+    }
+}
 
 // A request is accepted.
+#[tactic(auto, unfolding(dispenser_rules::specs::Account::account_opened))]
 fn opened(was: Cassettes, asked: Asked) -> Cassettes
     ensures { result ≡ account_opened was asked }
 {
-    let upper = was.upper;
-    let lower = was.lower;
-    Cassettes {
-        upper: sums::opened(upper, asked.upper),
-        lower: sums::opened(lower, asked.lower),
-    }
+    each(was, asked, sums::opened)
 }
 
 // It is closed as refused.
+#[tactic(auto, unfolding(dispenser_rules::specs::Account::account_refused))]
 fn closed_refused(was: Cassettes, asked: Asked) -> Cassettes
     ensures { result ≡ account_refused was asked }
 {
-    let upper = was.upper;
-    let lower = was.lower;
-    Cassettes {
-        upper: sums::closed_refused(upper, asked.upper),
-        lower: sums::closed_refused(lower, asked.lower),
-    }
+    each(was, asked, sums::closed_refused)
 }
 
 // It is closed as unknown.
+#[tactic(auto, unfolding(dispenser_rules::specs::Account::account_unknown))]
 fn closed_unknown(was: Cassettes, asked: Asked) -> Cassettes
     ensures { result ≡ account_unknown was asked }
 {
-    let upper = was.upper;
-    let lower = was.lower;
-    Cassettes {
-        upper: sums::closed_unknown(upper, asked.upper),
-        lower: sums::closed_unknown(lower, asked.lower),
-    }
+    each(was, asked, sums::closed_unknown)
 }
 
 // It is answered.
@@ -48,79 +49,58 @@ fn answered(was: Cassettes, asked: Asked, answer: Answer) -> Cassettes
     ensures { result ≡ account_answered was asked answer }
 {
     match answer {
-        Answer::Purged { error: _ } => was,
         Answer::PaidOne {
             cassette,
-            chk: _,
             exit,
-            error: _,
-            state: _,
             rejects,
+            ..
         } => paid_one(was, asked, cassette, exit, rejects),
         Answer::PaidBoth {
-            upper_chk: _,
             upper_exit,
-            lower_chk: _,
             lower_exit,
-            error: _,
-            upper_state: _,
-            lower_state: _,
             upper_rejects,
             lower_rejects,
-        } => {
-            let upper = was.upper;
-            let lower = was.lower;
-            Cassettes {
-                upper: sums::answered(upper, asked.upper, upper_exit, upper_rejects),
-                lower: sums::answered(lower, asked.lower, lower_exit, lower_rejects),
-            }
-        }
+            ..
+        } => Cassettes {
+            upper: sums::answered(was.upper, asked.upper, upper_exit, upper_rejects),
+            lower: sums::answered(was.lower, asked.lower, lower_exit, lower_rejects),
+        },
         Answer::Tested {
             cassette,
-            chk: _,
-            error: _,
-            state: _,
             rejects,
+            ..
         } => tested(was, cassette, rejects),
-        Answer::Status {
-            error: _,
-            sensor0: _,
-            sensor1: _,
-        } => was,
+        Answer::Purged { .. } | Answer::Status { .. } => was,
     }
 }
 
 fn paid_one(was: Cassettes, asked: Asked, cassette: Cassette, exit: u32, rejects: u32) -> Cassettes
     ensures { result ≡ account_paid was asked cassette exit rejects }
 {
-    let upper = was.upper;
-    let lower = was.lower;
     match cassette {
-        Cassette::Upper => {
-            let sums = sums::answered(upper, asked.upper, exit, rejects);
-            Cassettes { upper: sums, lower }
-        }
-        Cassette::Lower => {
-            let sums = sums::answered(lower, asked.lower, exit, rejects);
-            Cassettes { upper, lower: sums }
-        }
+        Cassette::Upper => Cassettes {
+            upper: sums::answered(was.upper, asked.upper, exit, rejects),
+            ..was
+        },
+        Cassette::Lower => Cassettes {
+            lower: sums::answered(was.lower, asked.lower, exit, rejects),
+            ..was
+        },
     }
 }
 
 fn tested(was: Cassettes, cassette: Cassette, rejects: u32) -> Cassettes
     ensures { result ≡ account_tested was cassette rejects }
 {
-    let upper = was.upper;
-    let lower = was.lower;
     match cassette {
-        Cassette::Upper => {
-            let sums = sums::rejected(upper, rejects);
-            Cassettes { upper: sums, lower }
-        }
-        Cassette::Lower => {
-            let sums = sums::rejected(lower, rejects);
-            Cassettes { upper, lower: sums }
-        }
+        Cassette::Upper => Cassettes {
+            upper: sums::rejected(was.upper, rejects),
+            ..was
+        },
+        Cassette::Lower => Cassettes {
+            lower: sums::rejected(was.lower, rejects),
+            ..was
+        },
     }
 }
 
@@ -141,8 +121,8 @@ pub fn booked(was: Cassettes, asked: Asked, reply: Reply) -> Cassettes
     ensures { result ≡ booked_by was asked reply }
 {
     match reply {
-        Reply::NotDone(_) => was,
-        Reply::Done { put: _, closing } => close(was, asked, closing),
+        Ok(done) => close(was, asked, done.closing),
+        Err(_) => was,
     }
 }
 
@@ -150,8 +130,9 @@ pub fn booked(was: Cassettes, asked: Asked, reply: Reply) -> Cassettes
 pub fn booked_request(was: Cassettes, asked: Asked, reply: Reply) -> Cassettes
     ensures { result ≡ request_booked was asked reply }
 {
-    match reply {
-        Reply::NotDone(_) => was,
-        Reply::Done { put: _, closing: _ } => opened(was, asked),
+    if reply.is_ok() {
+        opened(was, asked)
+    } else {
+        was
     }
 }

@@ -3,23 +3,22 @@ ghost use Rattle.std.specs.Prelude.{◌≡◌};
 ghost use Rattle.dispenser_rules.specs.Errors.{erred_one, erred_by_answer, erred_by_closing, erred_by};
 
 use dispenser_frame_rules::{Answer, Cassette};
-use dispenser_rules::{Closing, LastError, LastErrors, Reply};
+use dispenser_rules::{Closing, LastErrors, Reply};
 use error_codes::ErrorClass;
 
 // After an answer that speaks of one cassette.
 fn one(errors: LastErrors, cassette: Cassette, class: ErrorClass) -> LastErrors
     ensures { result ≡ erred_one errors cassette class }
 {
-    let told = LastError::Of(class);
     match cassette {
-        Cassette::Upper => {
-            let lower = errors.lower;
-            LastErrors { upper: told, lower }
-        }
-        Cassette::Lower => {
-            let upper = errors.upper;
-            LastErrors { upper, lower: told }
-        }
+        Cassette::Upper => LastErrors {
+            upper: Some(class),
+            ..errors
+        },
+        Cassette::Lower => LastErrors {
+            lower: Some(class),
+            ..errors
+        },
     }
 }
 
@@ -27,44 +26,14 @@ fn by_answer(errors: LastErrors, answer: Answer, class: ErrorClass) -> LastError
     ensures { result ≡ erred_by_answer errors answer class }
 {
     match answer {
-        Answer::Purged { error: _ } => errors,
-        Answer::PaidOne {
-            cassette,
-            chk: _,
-            exit: _,
-            error: _,
-            state: _,
-            rejects: _,
-        } => one(errors, cassette, class),
-        Answer::PaidBoth {
-            upper_chk: _,
-            upper_exit: _,
-            lower_chk: _,
-            lower_exit: _,
-            error: _,
-            upper_state: _,
-            lower_state: _,
-            upper_rejects: _,
-            lower_rejects: _,
-        } => {
-            let told = LastError::Of(class);
-            LastErrors {
-                upper: told,
-                lower: told,
-            }
+        Answer::PaidOne { cassette, .. } | Answer::Tested { cassette, .. } => {
+            one(errors, cassette, class)
         }
-        Answer::Tested {
-            cassette,
-            chk: _,
-            error: _,
-            state: _,
-            rejects: _,
-        } => one(errors, cassette, class),
-        Answer::Status {
-            error: _,
-            sensor0: _,
-            sensor1: _,
-        } => errors,
+        Answer::PaidBoth { .. } => LastErrors {
+            upper: Some(class),
+            lower: Some(class),
+        },
+        Answer::Purged { .. } | Answer::Status { .. } => errors,
     }
 }
 
@@ -72,10 +41,8 @@ fn by_closing(errors: LastErrors, closing: Closing) -> LastErrors
     ensures { result ≡ erred_by_closing errors closing }
 {
     match closing {
-        Closing::Nothing => errors,
         Closing::Answered(answer, class) => by_answer(errors, answer, class),
-        Closing::Refused => errors,
-        Closing::Unknown => errors,
+        Closing::Nothing | Closing::Refused | Closing::Unknown => errors,
     }
 }
 
@@ -84,7 +51,7 @@ pub fn erred(errors: LastErrors, reply: Reply) -> LastErrors
     ensures { result ≡ erred_by errors reply }
 {
     match reply {
-        Reply::NotDone(_) => errors,
-        Reply::Done { put: _, closing } => by_closing(errors, closing),
+        Ok(done) => by_closing(errors, done.closing),
+        Err(_) => errors,
     }
 }

@@ -8,39 +8,34 @@ ghost use Rattle.dispenser_rules.specs.declared.requests.Standing.TheVariants.{A
 use crate::account::{booked, booked_request};
 use dispenser_frame_rules::{Answer, Cassette, PAY_BOTH, PAY_LOWER, PAY_UPPER};
 use dispenser_rules::{
-    Account, Asked, Closing, KeptAt, KeptRequest, Place, Reply, Requests, Standing, Written,
+    Account, Asked, Closing, KeptRequest, Place, Reply, Requests, Standing, Written,
 };
 use exchange_rules::Notes;
 
 // Does a command with this code pay?
+#[tactic(auto, using(refusals::proofs::Rules::tests), unfolding(dispenser_rules::specs::Session::pays))]
 pub fn pays(code: u8) -> bool
     ensures { result ≡ pays code }
 {
-    if code == PAY_UPPER {
-        return true;
-    }
-    if code == PAY_LOWER {
-        return true;
-    }
-    code == PAY_BOTH
+    matches!(code, PAY_UPPER | PAY_LOWER | PAY_BOTH)
 }
 
+#[tactic(auto, unfolding(dispenser_rules::specs::Requests::slot_behind))]
 fn slot_behind(slot: usize) -> usize
     ensures { result ≡ slot_behind slot }
 {
-    if slot < 31 {
-        return slot + 1;
-    }
-    0
+    if slot < 31 { slot + 1 } else { 0 }
 }
 
+#[tactic(auto, unfolding(dispenser_rules::specs::Requests::one_more))]
 fn one_more(held: usize) -> usize
     ensures { result ≡ one_more held }
 {
     if held < Requests::MOST {
-        return held + 1;
+        held + 1
+    } else {
+        held
     }
-    held
 }
 
 // The place after what a request answered: an accepted paying one takes the next slot.
@@ -48,27 +43,20 @@ pub fn advance(place: Place, asked: Asked, reply: Reply) -> Place
     ensures { result ≡ place_after place asked reply }
 {
     match reply {
-        Reply::NotDone(_) => place,
-        Reply::Done { put: _, closing: _ } => {
-            if pays(asked.code) {
-                return Place {
-                    next: slot_behind(place.next),
-                    held: one_more(place.held),
-                };
-            }
-            place
-        }
+        Ok(_) if pays(asked.code) => Place {
+            next: slot_behind(place.next),
+            held: one_more(place.held),
+        },
+        _ => place,
     }
 }
 
 // The slot of the newest request.
+#[tactic(auto, unfolding(dispenser_rules::specs::Requests::newest_slot))]
 fn newest_slot(place: Place) -> usize
     ensures { result ≡ newest_slot place }
 {
-    if place.next == 0 {
-        return 31;
-    }
-    place.next - 1
+    place.next.checked_sub(1).unwrap_or(31)
 }
 
 // Nothing is written down.
@@ -88,13 +76,13 @@ pub fn unwritten() -> Written
 }
 
 // How the command now stands, if it pays.
+#[tactic(auto, unfolding(dispenser_rules::specs::Session::wrote))]
 fn wrote(place: Place, asked: Asked, handed: u32, standing: Standing) -> Written
     ensures { result ≡ wrote place asked handed standing }
 {
     if pays(asked.code) {
-        let slot = newest_slot(place);
-        return Written {
-            slot,
+        Written {
+            slot: newest_slot(place),
             request: KeptRequest {
                 code: asked.code,
                 upper: asked.upper,
@@ -102,32 +90,28 @@ fn wrote(place: Place, asked: Asked, handed: u32, standing: Standing) -> Written
                 handed,
                 standing,
             },
-        };
+        }
+    } else {
+        unwritten()
     }
-    unwritten()
+}
+
+// So many notes were paid from each cassette.
+fn paid(upper: u32, lower: u32) -> Standing
+    ensures { result ≡ Answered (notes upper) (notes lower) }
+{
+    Standing::Answered {
+        upper: Notes(upper),
+        lower: Notes(lower),
+    }
 }
 
 fn paid_one(cassette: Cassette, exit: u32) -> Standing
     ensures { result ≡ paid_one cassette exit }
 {
     match cassette {
-        Cassette::Upper => Standing::Answered {
-            upper: Notes(exit),
-            lower: Notes(0),
-        },
-        Cassette::Lower => Standing::Answered {
-            upper: Notes(0),
-            lower: Notes(exit),
-        },
-    }
-}
-
-fn no_notes() -> Standing
-    ensures { result ≡ Answered (notes 0) (notes 0) }
-{
-    Standing::Answered {
-        upper: Notes(0),
-        lower: Notes(0),
+        Cassette::Upper => paid(exit, 0),
+        Cassette::Lower => paid(0, exit),
     }
 }
 
@@ -136,41 +120,13 @@ fn paid_by(answer: Answer) -> Standing
     ensures { result ≡ paid_by answer }
 {
     match answer {
-        Answer::PaidOne {
-            cassette,
-            chk: _,
-            exit,
-            error: _,
-            state: _,
-            rejects: _,
-        } => paid_one(cassette, exit),
+        Answer::PaidOne { cassette, exit, .. } => paid_one(cassette, exit),
         Answer::PaidBoth {
-            upper_chk: _,
             upper_exit,
-            lower_chk: _,
             lower_exit,
-            error: _,
-            upper_state: _,
-            lower_state: _,
-            upper_rejects: _,
-            lower_rejects: _,
-        } => Standing::Answered {
-            upper: Notes(upper_exit),
-            lower: Notes(lower_exit),
-        },
-        Answer::Purged { error: _ } => no_notes(),
-        Answer::Tested {
-            cassette: _,
-            chk: _,
-            error: _,
-            state: _,
-            rejects: _,
-        } => no_notes(),
-        Answer::Status {
-            error: _,
-            sensor0: _,
-            sensor1: _,
-        } => no_notes(),
+            ..
+        } => paid(upper_exit, lower_exit),
+        Answer::Purged { .. } | Answer::Tested { .. } | Answer::Status { .. } => paid(0, 0),
     }
 }
 
@@ -178,12 +134,8 @@ fn write_closing(place: Place, asked: Asked, handed: u32, put: usize, closing: C
     ensures { result ≡ written_at place asked handed put closing }
 {
     match closing {
-        Closing::Nothing => {
-            if 1 < put {
-                return wrote(place, asked, handed, Standing::Open);
-            }
-            unwritten()
-        }
+        Closing::Nothing if 1 < put => wrote(place, asked, handed, Standing::Open),
+        Closing::Nothing => unwritten(),
         Closing::Answered(answer, _) => wrote(place, asked, handed, paid_by(answer)),
         Closing::Refused => wrote(place, asked, handed, Standing::Refused),
         Closing::Unknown => wrote(place, asked, handed, Standing::Unknown),
@@ -195,20 +147,17 @@ pub fn write_down(place: Place, asked: Asked, handed: u32, reply: Reply) -> Writ
     ensures { result ≡ written_by place asked handed reply }
 {
     match reply {
-        Reply::NotDone(_) => unwritten(),
-        Reply::Done { put, closing } => write_closing(place, asked, handed, put, closing),
+        Ok(done) => write_closing(place, asked, handed, done.put, done.closing),
+        Err(_) => unwritten(),
     }
 }
 
 // The slots with what was written down.
-fn stored(was: [KeptRequest; 32], written: Written) -> [KeptRequest; 32]
-    ensures { result ≡ slots_after was written }
+fn stored(mut slots: [KeptRequest; 32], written: Written) -> [KeptRequest; 32]
+    ensures { result ≡ slots_after slots written }
 {
-    let slot = written.slot;
-    let request = written.request;
-    let mut slots = was;
-    if slot < Requests::MOST {
-        slots[slot] = request;
+    if written.slot < Requests::MOST {
+        slots[written.slot] = written.request;
     }
     slots
 }
@@ -217,68 +166,58 @@ fn stored(was: [KeptRequest; 32], written: Written) -> [KeptRequest; 32]
 fn noted(was: Requests, place: Place, asked: Asked, handed: u32, reply: Reply) -> Requests
     ensures { result ≡ requests_at place was asked handed reply }
 {
-    let written = write_down(place, asked, handed, reply);
-    let were = was.slots;
-    let slots = stored(were, written);
-    Requests { place, slots }
+    Requests {
+        place,
+        slots: stored(was.slots, write_down(place, asked, handed, reply)),
+    }
 }
 
 // The account after what a request answered; `handed` is how often its command was handed over.
+#[tactic(auto, unfolding(dispenser_rules::specs::Session::account_asked))]
 pub fn asked(account: Account, asked: Asked, handed: u32, reply: Reply) -> Account
     ensures { result ≡ account_asked account asked handed reply }
 {
-    let were = account.cassettes;
-    let kept = account.requests;
-    let place = kept.place;
-    let next = advance(place, asked, reply);
-    let cassettes = booked_request(were, asked, reply);
-    let requests = noted(kept, next, asked, handed, reply);
+    let place = advance(account.requests.place, asked, reply);
     Account {
-        cassettes,
-        requests,
+        cassettes: booked_request(account.cassettes, asked, reply),
+        requests: noted(account.requests, place, asked, handed, reply),
     }
 }
 
 // The account after what a byte or a tick answered.
+#[tactic(auto, unfolding(dispenser_rules::specs::Session::account_heard))]
 pub fn heard(account: Account, asked: Asked, handed: u32, reply: Reply) -> Account
     ensures { result ≡ account_heard account asked handed reply }
 {
-    let were = account.cassettes;
-    let kept = account.requests;
-    let place = kept.place;
-    let cassettes = booked(were, asked, reply);
-    let requests = noted(kept, place, asked, handed, reply);
-    Account {
+    let Account {
         cassettes,
         requests,
+    } = account;
+    Account {
+        cassettes: booked(cassettes, asked, reply),
+        requests: noted(requests, requests.place, asked, handed, reply),
     }
 }
 
+#[tactic(auto, unfolding(dispenser_rules::specs::Requests::around))]
 fn around(slot: usize) -> usize
     ensures { result ≡ around slot }
 {
     if slot < Requests::MOST {
-        return slot;
+        slot
+    } else {
+        slot - Requests::MOST
     }
-    slot - Requests::MOST
 }
 
 // The request that is kept at a place, the oldest at 0, or nothing.
-pub fn kept_at(requests: Requests, place: usize) -> KeptAt
+pub fn kept_at(requests: Requests, place: usize) -> Option<KeptRequest>
     ensures { result ≡ kept_at requests place }
 {
-    let next = requests.place.next;
-    let held = requests.place.held;
-    if held <= place {
-        return KeptAt::Nothing;
-    }
-    if Requests::MOST < held {
-        return KeptAt::Nothing;
-    }
-    if Requests::MOST <= next {
-        return KeptAt::Nothing;
+    let Place { next, held } = requests.place;
+    if held <= place || Requests::MOST < held || Requests::MOST <= next {
+        return None;
     }
     let slot = around(next + (Requests::MOST - held + place));
-    let request = requests.slots[slot];
-    KeptAt::Request(request)
+    Some(requests.slots[slot])
 }

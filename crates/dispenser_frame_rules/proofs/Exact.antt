@@ -12,8 +12,8 @@ use Rattle.xor_frame.specs.Frame.{length_with, code_of, faults}
 use Rattle.dispenser_frame_rules.specs.Command.{counts_fit, sendable, command_frame, command_refusals, write_command, command_in, command_faults, read_command}
 use Rattle.dispenser_frame_rules.specs.Answer.{answer_frame, answer_refusals, write_answer, read_as, answer_in, answer_faults, read_answer}
 use Rattle.dispenser_frame_rules.specs.Promises.{ExactlyWhen, InOrder, SentAsWritten, Columns}
-use Rattle.dispenser_frame_rules.specs.declared.command.CommandRead.TheVariants.{Refused}
-use Rattle.dispenser_frame_rules.specs.declared.answer.AnswerRead.TheVariants.{Refused as NotRead}
+use Rattle.dispenser_frame_rules.specs.CommandRead.{Refused}
+use Rattle.dispenser_frame_rules.specs.AnswerRead.{Refused as NotRead}
 use Rattle.dispenser_frame_rules.proofs.Codes.{command-longest}
 
 pub exactly-when : ExactlyWhen

@@ -17,9 +17,9 @@ use Rattle.dispenser_frame_rules.specs.Command.{counts_fit, asked_at, command_in
 use Rattle.dispenser_frame_rules.specs.Parts.{fields_read, counts_read}
 use Rattle.xor_frame.specs.Parts.{count_at, field_faults}
 use Rattle.xor_frame.proofs.Raw.{Sound, raw_values, read-raw}
-use Rattle.dispenser_frame_rules.specs.declared.command.CommandRead.TheVariants.{Read, Refused as NoCommand}
+use Rattle.dispenser_frame_rules.specs.CommandRead.{Read, Refused as NoCommand}
 use Rattle.dispenser_frame_rules.specs.declared.answer.Answer.{Answer}
-use Rattle.dispenser_frame_rules.specs.declared.answer.AnswerRead.TheVariants.{Refused}
+use Rattle.dispenser_frame_rules.specs.AnswerRead.{Refused}
 use Rattle.xor_frame.specs.declared.frame.Fault.TheVariants.{Field as Outside}
 
 -- an answer's fields: the answer that the reader's values make where all are in their ranges, and a refusal where not

@@ -13,7 +13,7 @@ use Rattle.error_codes.specs.Errors.{error_class}
 use Rattle.error_codes.specs.declared.ErrorClass.{ErrorClass}
 use Rattle.dispenser_frame_rules.specs.Promises.{ErrorTold, error_in, error_place}
 use Rattle.dispenser_frame_rules.specs.declared.answer.Answer.{Answer}
-use Rattle.dispenser_frame_rules.specs.declared.answer.AnswerRead.TheVariants.{Read as Found}
+use Rattle.dispenser_frame_rules.specs.AnswerRead.{Read as Found}
 use Rattle.dispenser_frame_rules.proofs.Codes.{by_code}
 use Rattle.dispenser_frame_rules.proofs.Trips.{answer-passed}
 

@@ -1,4 +1,5 @@
 -- Reading undoes writing and writing undoes reading, for commands and for answers of every code. Assumes nothing.
+use Rattle.std.proofs.lemmas.Result.{IfOk-at_ok}
 use Prim.Native.Nat.{ℕ, zero, suc, ◌+◌, ◌≤◌}
 use mathlib.Core.Path.{◌≡◌, refl, sym, ap, ap₂, ◌∙◌, subst}
 use mathlib.Core.Bool.{Bool, true, false}
@@ -21,12 +22,12 @@ use Rattle.dispenser_frame_rules.specs.Answer.{answer_code, answer_values, answe
 use Rattle.error_codes.specs.Errors.{error_class}
 use Rattle.error_codes.specs.declared.ErrorClass.{ErrorClass}
 use Rattle.dispenser_frame_rules.specs.Promises.{CommandTrips, AnswerTrips}
-use Rattle.dispenser_frame_rules.specs.declared.command.CommandRead.TheVariants.{Read, Refused}
+use Rattle.dispenser_frame_rules.specs.CommandRead.{Read, Refused}
 use Rattle.dispenser_frame_rules.specs.declared.answer.Cassette.{Cassette}
 use Rattle.dispenser_frame_rules.specs.declared.answer.Cassette.TheVariants.{Upper, Lower}
 use Rattle.dispenser_frame_rules.specs.declared.answer.Answer.{Answer}
 use Rattle.dispenser_frame_rules.specs.declared.answer.Answer.TheVariants.{Purged, PaidOne, PaidBoth, Tested, Status}
-use Rattle.dispenser_frame_rules.specs.declared.answer.AnswerRead.TheVariants.{Read as Found, Refused as NotRead}
+use Rattle.dispenser_frame_rules.specs.AnswerRead.{Read as Found, Refused as NotRead}
 use Rattle.dispenser_frame_rules.proofs.Exact.{sent-fits}
 use Rattle.dispenser_frame_rules.proofs.Codes.{by_code, answer-known, answer-sized}
 use Rattle.xor_frame.proofs.Lengths.{length-known}
@@ -116,7 +117,12 @@ command-passed s code u l e =
     absurd (let z : ◌≡◌ {A = ℕ} 0 1 = cc in omega arith))
     (λ none.
     let r : command_in (code_of s) s ≡ Read code u l = sym (none-judged Refused (command_in (code_of s) s) (command_faults s) none) ∙ e in
-    record { none = none; same_code = cc; upper = cc; lower = cc })
+    record {
+      none = none;
+      same_code = IfOk-at_ok (λ x. x.code ≡ code) (sym r) refl;
+      upper = IfOk-at_ok (λ x. x.upper ≡ u) (sym r) refl;
+      lower = IfOk-at_ok (λ x. x.lower ≡ l) (sym r) refl;
+    })
     (first_or_none (command_faults s))
 
 command-again : (s room : List ℕ) → NoneOf (command_faults s) → length s ≤ length room
@@ -265,7 +271,11 @@ answer-passed s a b e =
     absurd (let z : ◌≡◌ {A = ℕ} 0 1 = cc in omega arith))
     (λ none.
     let r : read_as (answer_in s) ≡ Found a b = sym (none-judged NotRead (read_as (answer_in s)) (answer_faults s) none) ∙ e in
-    record { none = none; is = cc; told = cc })
+    record {
+      none = none;
+      is = IfOk-at_ok (λ x. x.answer ≡ a) (sym r) refl;
+      told = IfOk-at_ok (λ x. b ≡ x.class) (sym r) refl;
+    })
     (first_or_none (answer_faults s))
 
 answer-again : (s room : List ℕ) → NoneOf (answer_faults s) → length s ≤ length room → write_answer (answer_in s) room ≡ laid s room

@@ -13,8 +13,8 @@ use Rattle.dispenser_frame_rules.specs.declared.answer.Cassette.{Cassette}
 use Rattle.dispenser_frame_rules.specs.declared.answer.Cassette.TheVariants.{Upper, Lower}
 use Rattle.dispenser_frame_rules.specs.declared.answer.Answer.{Answer}
 use Rattle.dispenser_frame_rules.specs.declared.answer.Answer.TheVariants.{Purged, PaidOne, PaidBoth, Tested, Status}
-use Rattle.dispenser_frame_rules.specs.declared.answer.AnswerRead.{AnswerRead}
-use Rattle.dispenser_frame_rules.specs.declared.answer.AnswerRead.TheVariants.{Read, Refused}
+use Rattle.dispenser_frame_rules.specs.AnswerRead.{AnswerRead}
+use Rattle.dispenser_frame_rules.specs.AnswerRead.{Read, Refused}
 
 -- the codes of an answer that speaks of one cassette
 abbrev pub pay_code : Cassette → ℕ

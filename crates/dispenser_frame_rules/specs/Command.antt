@@ -8,8 +8,8 @@ use Rattle.xor_frame.specs.Layout.{sizes, value_at, all_bytes}
 use Rattle.dispenser_frame_rules.specs.Table.{model_id, wanted, known, line, asks, asked_fields, asked_values, command_fields, command_length}
 use Rattle.xor_frame.specs.Frame.{eot, frame, code_of, faults}
 use Rattle.xor_frame.specs.declared.frame.Fault.{Fault}
-use Rattle.dispenser_frame_rules.specs.declared.command.CommandRead.{CommandRead}
-use Rattle.dispenser_frame_rules.specs.declared.command.CommandRead.TheVariants.{Read, Refused}
+use Rattle.dispenser_frame_rules.specs.CommandRead.{CommandRead}
+use Rattle.dispenser_frame_rules.specs.CommandRead.{Read, Refused}
 
 -- each count is in its range, and none is given where none belongs
 unfoldable pub counts_fit : ℕ → ℕ → ℕ → Condition

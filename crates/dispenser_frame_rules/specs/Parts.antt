@@ -6,11 +6,11 @@ use Rattle.xor_frame.specs.Parts.{field_faults}
 use Rattle.dispenser_frame_rules.specs.Table.{command_fields}
 use Rattle.dispenser_frame_rules.specs.Command.{command_in}
 use Rattle.dispenser_frame_rules.specs.Answer.{read_as}
-use Rattle.dispenser_frame_rules.specs.declared.command.CommandRead.{CommandRead}
-use Rattle.dispenser_frame_rules.specs.declared.command.CommandRead.TheVariants.{Refused}
+use Rattle.dispenser_frame_rules.specs.CommandRead.{CommandRead}
+use Rattle.dispenser_frame_rules.specs.CommandRead.{Refused}
 use Rattle.dispenser_frame_rules.specs.declared.answer.Answer.{Answer}
-use Rattle.dispenser_frame_rules.specs.declared.answer.AnswerRead.{AnswerRead}
-use Rattle.dispenser_frame_rules.specs.declared.answer.AnswerRead.TheVariants.{Refused as NotRead}
+use Rattle.dispenser_frame_rules.specs.AnswerRead.{AnswerRead}
+use Rattle.dispenser_frame_rules.specs.AnswerRead.{Refused as NotRead}
 
 -- what is read of a frame in which the fields alone are left to test
 unfoldable pub counts_read : ℕ → List ℕ → CommandRead

@@ -3,16 +3,16 @@ use Rattle.std.specs.Prelude.{ℕ, ◌≤◌, ◌≡◌, List, [], ◌∷◌, ma
 use Rattle.refusals.specs.Rules.{Exactly, same, first_of, numbered, ◌gives◌}
 use Rattle.refusals.specs.Numbers.{refusal_number}
 use Rattle.refusals.specs.Put.{written, refused, laid}
-use Rattle.refusals.specs.declared.Put.TheVariants.{Bytes}
+use Rattle.refusals.specs.Put.{Bytes}
 use Rattle.dispenser_frame_rules.specs.Table.{table, command_length, answer_length}
 use Rattle.xor_frame.specs.Frame.{fault_number, code_of}
 use Rattle.error_codes.specs.Errors.{error_class}
 use Rattle.error_codes.specs.declared.ErrorClass.{ErrorClass}
 use Rattle.dispenser_frame_rules.specs.Command.{sendable, command_frame, command_refusals, write_command, command_in, command_faults, read_command}
 use Rattle.dispenser_frame_rules.specs.Answer.{answer_error, answer_frame, answer_refusals, write_answer, read_as, answer_in, answer_faults, read_answer}
-use Rattle.dispenser_frame_rules.specs.declared.command.CommandRead.TheVariants.{Read, Refused}
+use Rattle.dispenser_frame_rules.specs.CommandRead.{Read, Refused}
 use Rattle.dispenser_frame_rules.specs.declared.answer.Answer.{Answer}
-use Rattle.dispenser_frame_rules.specs.declared.answer.AnswerRead.TheVariants.{Read as Found, Refused as NotRead}
+use Rattle.dispenser_frame_rules.specs.AnswerRead.{Read as Found, Refused as NotRead}
 
 -- "each reading undoing the writing and the reverse" (the customer's second demand), for commands. Whatever the writer put reads as what
 -- it was given; whatever reads well is written again as the same bytes, in any room that holds them

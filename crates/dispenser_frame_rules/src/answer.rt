@@ -1,6 +1,5 @@
-// What an answer says, and what reading one finds.
+// What an answer says.
 use error_codes::ErrorClass;
-use xor_frame::Fault;
 
 // Which cassette an answer speaks of.
 #[derive(Clone, Copy)]
@@ -48,9 +47,9 @@ pub enum Answer {
     },
 }
 
-// What reading an answer frame finds: the answer, and beside it the class of its error byte.
+// An answer, and beside it the class of its error byte.
 #[derive(Clone, Copy)]
-pub enum AnswerRead {
-    Read { answer: Answer, class: ErrorClass },
-    Refused(Fault),
+pub struct Classed {
+    pub answer: Answer,
+    pub class: ErrorClass,
 }

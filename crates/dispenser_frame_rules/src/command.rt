@@ -1,9 +1,9 @@
-// What reading a command finds.
-use xor_frame::Fault;
+// What a command asks.
 
-// What reading a command frame finds. A count that is not asked is 0.
+// A command's code, and the count that it asks of each cassette; a count that is not asked is 0.
 #[derive(Clone, Copy)]
-pub enum CommandRead {
-    Read { code: u8, upper: u32, lower: u32 },
-    Refused(Fault),
+pub struct Command {
+    pub code: u8,
+    pub upper: u32,
+    pub lower: u32,
 }

@@ -6,6 +6,6 @@ mod answer;
 mod command;
 mod table;
 
-pub use answer::{Answer, AnswerRead, Cassette};
-pub use command::CommandRead;
+pub use answer::{Answer, Cassette, Classed};
+pub use command::Command;
 pub use table::{MODEL_ID, PAY_BOTH, PAY_LOWER, PAY_UPPER, PURGE, STATUS, TEST_LOWER, TEST_UPPER};

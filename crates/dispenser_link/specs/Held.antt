@@ -1,5 +1,5 @@
 -- A session and a reply as a program in C holds them, in numbers alone; and what a call leaves there.
-use Rattle.std.specs.Prelude.{ℕ, ◌≡◌, cond, List, eqb}
+use Rattle.std.specs.Prelude.{ℕ, ◌≡◌, cond, List, eqb, Ok}
 use Rattle.refusals.specs.Numbers.{declined_number}
 use Rattle.exchange_rules.specs.declared.line.Phase.{Phase}
 use Rattle.exchange_rules.specs.declared.line.Phase.TheVariants.{Idle, First, Start, Inside}
@@ -10,11 +10,11 @@ use Rattle.dispenser_frame_rules.specs.declared.answer.Answer.TheVariants.{Purge
 use Rattle.dispenser_rules.specs.Session.{After}
 use Rattle.dispenser_rules.specs.declared.session.Closing.{Closing}
 use Rattle.dispenser_rules.specs.declared.session.Closing.TheVariants.{Nothing, Answered, Refused, Unknown}
-use Rattle.dispenser_rules.specs.declared.session.Reply.{Reply}
-use Rattle.dispenser_rules.specs.declared.session.Reply.TheVariants.{NotDone, Done}
+use Rattle.dispenser_rules.specs.Reply.{Reply}
+use Rattle.dispenser_rules.specs.Reply.{NotDone, Done}
 use Rattle.dispenser_rules.specs.Requests.{fresh_requests}
 use Rattle.dispenser_rules.specs.declared.session.Session.{Session}
-use Rattle.dispenser_rules.specs.declared.session.Outcome.{Outcome}
+use Rattle.dispenser_rules.specs.Outcome.{Outcome}
 use Rattle.dispenser_link.specs.declared.held.Held.{Held}
 use Rattle.dispenser_link.specs.declared.held.HeldSums.{HeldSums}
 use Rattle.dispenser_link.specs.declared.held.HeldReply.{HeldReply}
@@ -118,7 +118,7 @@ closed n Unknown = reply n 0 3 0
 
 abbrev pub told : Reply → HeldReply
 told (NotDone why) = reply 0 (declined_number why) 0 0
-told (Done n closing) = closed n closing
+told (Ok effect) = closed effect.put effect.closing
 
 -- ---- what a call leaves
 

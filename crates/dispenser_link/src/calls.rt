@@ -33,40 +33,34 @@ pub extern "C" fn dispenser_lower(session: Held) -> HeldSums
 fn kept(outcome: Outcome) -> HeldOutcome
     ensures { result ≡ leaves outcome }
 {
-    let session = outcome.session;
-    let reply = outcome.reply;
     HeldOutcome {
-        session: held_of(session),
-        reply: told(reply),
+        session: held_of(outcome.session),
+        reply: told(outcome.reply),
     }
 }
 
 fn request(session: Held, code: u8, upper: u32, lower: u32, room: &mut [u8]) -> HeldOutcome
     ensures { IsHeldAfter result room.new (session_request (session_of session) code upper lower room.old) }
 {
-    let outcome = dispenser::request(session_of(session), code, upper, lower, room);
-    kept(outcome)
+    kept(dispenser::request(session_of(session), code, upper, lower, room))
 }
 
 fn byte(session: Held, b: u8, room: &mut [u8]) -> HeldOutcome
     ensures { IsHeldAfter result room.new (session_byte (session_of session) b room.old) }
 {
-    let outcome = dispenser::byte(session_of(session), b, room);
-    kept(outcome)
+    kept(dispenser::byte(session_of(session), b, room))
 }
 
 fn tick(session: Held, ms: u32, room: &mut [u8]) -> HeldOutcome
     ensures { IsHeldAfter result room.new (session_tick (session_of session) ms room.old) }
 {
-    let outcome = dispenser::tick(session_of(session), ms, room);
-    kept(outcome)
+    kept(dispenser::tick(session_of(session), ms, room))
 }
 
 fn clear(session: Held) -> HeldOutcome
     ensures { IsHeldAfter result [] (session_clear (session_of session)) }
 {
-    let outcome = dispenser::clear(session_of(session));
-    kept(outcome)
+    kept(dispenser::clear(session_of(session)))
 }
 
 // A request: a code, and the notes asked of each cassette (0 where none are).

@@ -76,19 +76,16 @@ fn phase_number(phase: Phase) -> u8
     }
 }
 
+#[tactic(auto, using(refusals::proofs::Rules::tests), unfolding(crate::specs::Held::phase_of))]
 fn phase_of(n: u8) -> Phase
     ensures { result ≡ phase_of n }
 {
-    if n == 1 {
-        return Phase::First;
+    match n {
+        1 => Phase::First,
+        2 => Phase::Start,
+        3 => Phase::Inside,
+        _ => Phase::Idle,
     }
-    if n == 2 {
-        return Phase::Start;
-    }
-    if n == 3 {
-        return Phase::Inside;
-    }
-    Phase::Idle
 }
 
 fn held_sums(s: Sums) -> HeldSums
@@ -122,17 +119,16 @@ fn sums_of(s: HeldSums) -> Sums
 }
 
 // The session as it is held.
+#[tactic(auto, unfolding(crate::specs::Held::held))]
 pub(crate) fn held_of(s: Session) -> Held
     ensures { result ≡ held s }
 {
-    let line = s.line;
-    let asked = s.asked;
-    let account = s.account;
-    let store = s.store;
-    let phase = line.phase;
-    let cassettes = account.cassettes;
-    let upper = cassettes.upper;
-    let lower = cassettes.lower;
+    let Session {
+        line,
+        asked,
+        account,
+        store,
+    } = s;
     Held {
         left: line.left,
         quiet: line.quiet,
@@ -141,27 +137,25 @@ pub(crate) fn held_of(s: Session) -> Held
         naks: line.naks,
         gathered: line.gathered,
         doubts: line.doubts,
-        phase: phase_number(phase),
+        phase: phase_number(line.phase),
         asked: HeldAsked {
             code: asked.code,
             upper: asked.upper,
             lower: asked.lower,
             span: asked.span,
         },
-        upper: held_sums(upper),
-        lower: held_sums(lower),
+        upper: held_sums(account.cassettes.upper),
+        lower: held_sums(account.cassettes.lower),
         store,
     }
 }
 
 // The session that is held, with no request kept.
+#[tactic(auto, unfolding(crate::specs::Held::session_of))]
 pub(crate) fn session_of(h: Held) -> Session
     ensures { result ≡ session_of h }
 {
     let store = h.store;
-    let asked = h.asked;
-    let upper = h.upper;
-    let lower = h.lower;
     Session {
         line: Line {
             left: h.left,
@@ -174,15 +168,15 @@ pub(crate) fn session_of(h: Held) -> Session
             phase: phase_of(h.phase),
         },
         asked: Asked {
-            code: asked.code,
-            upper: asked.upper,
-            lower: asked.lower,
-            span: asked.span,
+            code: h.asked.code,
+            upper: h.asked.upper,
+            lower: h.asked.lower,
+            span: h.asked.span,
         },
         account: Account {
             cassettes: Cassettes {
-                upper: sums_of(upper),
-                lower: sums_of(lower),
+                upper: sums_of(h.upper),
+                lower: sums_of(h.lower),
             },
             requests: Requests::fresh(),
         },
@@ -194,69 +188,28 @@ fn error_of(answer: Answer) -> u8
     ensures { result ≡ error_of answer }
 {
     match answer {
-        Answer::Purged { error } => error,
-        Answer::PaidOne {
-            cassette: _,
-            chk: _,
-            exit: _,
-            error,
-            state: _,
-            rejects: _,
-        } => error,
-        Answer::PaidBoth {
-            upper_chk: _,
-            upper_exit: _,
-            lower_chk: _,
-            lower_exit: _,
-            error,
-            upper_state: _,
-            lower_state: _,
-            upper_rejects: _,
-            lower_rejects: _,
-        } => error,
-        Answer::Tested {
-            cassette: _,
-            chk: _,
-            error,
-            state: _,
-            rejects: _,
-        } => error,
-        Answer::Status {
-            error,
-            sensor0: _,
-            sensor1: _,
-        } => error,
+        Answer::Purged { error }
+        | Answer::PaidOne { error, .. }
+        | Answer::PaidBoth { error, .. }
+        | Answer::Tested { error, .. }
+        | Answer::Status { error, .. } => error,
     }
 }
 
 fn closed(put: usize, closing: Closing) -> HeldReply
     ensures { result ≡ closed put closing }
 {
-    match closing {
-        Closing::Nothing => HeldReply {
-            put,
-            declined: 0,
-            closing: 0,
-            error: 0,
-        },
-        Closing::Answered(answer, _) => HeldReply {
-            put,
-            declined: 0,
-            closing: 1,
-            error: error_of(answer),
-        },
-        Closing::Refused => HeldReply {
-            put,
-            declined: 0,
-            closing: 2,
-            error: 0,
-        },
-        Closing::Unknown => HeldReply {
-            put,
-            declined: 0,
-            closing: 3,
-            error: 0,
-        },
+    let (closing, error) = match closing {
+        Closing::Nothing => (0, 0),
+        Closing::Answered(answer, _) => (1, error_of(answer)),
+        Closing::Refused => (2, 0),
+        Closing::Unknown => (3, 0),
+    };
+    HeldReply {
+        put,
+        declined: 0,
+        closing,
+        error,
     }
 }
 
@@ -265,12 +218,12 @@ pub(crate) fn told(reply: Reply) -> HeldReply
     ensures { result ≡ told reply }
 {
     match reply {
-        Reply::NotDone(why) => HeldReply {
+        Ok(done) => closed(done.put, done.closing),
+        Err(why) => HeldReply {
             put: 0,
             declined: why.number(),
             closing: 0,
             error: 0,
         },
-        Reply::Done { put, closing } => closed(put, closing),
     }
 }

@@ -1,4 +1,5 @@
 -- A call that closes a command puts one byte at most and hands nothing over: so how often the command was handed over is still known. Assumes nothing.
+use Rattle.std.specs.Prelude.{Ok}
 use Prim.Native.Nat.{ℕ, ◌+◌, ◌≤◌}
 use mathlib.Core.Path.{◌≡◌, refl, sym, ◌∙◌, subst}
 use mathlib.Core.Bool.{Bool, true, false, true≢false}
@@ -8,8 +9,8 @@ use lib.ListN.{set, take}
 use Rattle.refusals.specs.Rules.{under, same}
 use Rattle.refusals.proofs.Rules.{pick, either_way}
 use Rattle.dispenser_frame_rules.specs.Answer.{answer_code, read_answer}
-use Rattle.dispenser_frame_rules.specs.declared.answer.AnswerRead.{AnswerRead}
-use Rattle.dispenser_frame_rules.specs.declared.answer.AnswerRead.TheVariants.{Read, Refused as NotRead}
+use Rattle.dispenser_frame_rules.specs.AnswerRead.{AnswerRead}
+use Rattle.dispenser_frame_rules.specs.AnswerRead.{Refused as NotRead}
 use Rattle.exchange_rules.specs.Exchange.{first_byte, bad_frame, start_byte, inside_byte, heard_in, heard, expired_in, expired, passed}
 use Rattle.exchange_rules.specs.declared.line.Phase.{Phase}
 use Rattle.exchange_rules.specs.declared.line.Phase.TheVariants.{Idle, First, Start, Inside}
@@ -24,8 +25,8 @@ use Rattle.dispenser_rules.specs.Session.{StepAfter, ByteAfter, step_after, byte
 use Rattle.dispenser_rules.specs.declared.session.Asked.{Asked}
 use Rattle.dispenser_rules.specs.declared.session.Closing.{Closing}
 use Rattle.dispenser_rules.specs.declared.session.Closing.TheVariants.{Nothing, Answered, Refused, Unknown}
-use Rattle.dispenser_rules.specs.declared.session.Reply.{Reply}
-use Rattle.dispenser_rules.specs.declared.session.Reply.TheVariants.{NotDone, Done}
+use Rattle.dispenser_rules.specs.Reply.{Reply}
+use Rattle.dispenser_rules.specs.Reply.{NotDone}
 
 abbrev pub is_closing : Closing → Bool
 is_closing Nothing = false
@@ -35,11 +36,11 @@ is_closing Unknown = true
 
 abbrev pub closes : Reply → Bool
 closes (NotDone why) = false
-closes (Done n c) = is_closing c
+closes (Ok effect) = is_closing effect.closing
 
 abbrev pub put_by : Reply → ℕ
 put_by (NotDone why) = 0
-put_by (Done n c) = n
+put_by (Ok effect) = effect.put
 
 -- a step that closes puts one byte at most, and n hand-overs are still known
 abbrev pub Closed : ℕ → StepAfter → Type 0
@@ -108,7 +109,7 @@ module _ (n : ℕ) (a : Asked) (r : List ℕ) where
   bad-closed l e = acted-closed (bad_frame l).todo (bad_frame l).line (subst (λ (k : ℕ). SteadyBy k (bad_frame l)) e (bad-steady l))
 
   judged-closed : (x : AnswerRead) (l : Line) → l.handed ≡ n → Closed n (judged_step x l a r)
-  judged-closed (Read answer class) l e = pick (Closed n) (same (answer_code answer) a.code) _ _ (λ h g. (omega arith, e)) (λ m. bad-closed l e)
+  judged-closed (Ok read) l e = pick (Closed n) (same (answer_code read.answer) a.code) _ _ (λ h g. (omega arith, e)) (λ m. bad-closed l e)
   judged-closed (NotRead fault) l e = bad-closed l e
 
   byte-closed : (h : Heard) (l : Line) (store : List ℕ) (at b : ℕ) → SteadyIn n h l → Closed n (byte_acted h l a store at b r).step

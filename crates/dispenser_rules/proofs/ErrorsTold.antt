@@ -1,5 +1,7 @@
 -- The last error of each cassette is told by the bytes of the history: at every call what the call answered changes it as the history's newest command does.
 -- Assumes nothing.
+use Rattle.dispenser_rules.specs.declared.session.Closing.{Closing}
+use Rattle.std.specs.Prelude.{Ok}
 use Prim.Native.Nat.{ℕ}
 use mathlib.Core.Path.{◌≡◌, refl, sym, ap, subst, ◌∙◌}
 use mathlib.Core.Bool.{Bool, true, false, cond}
@@ -25,12 +27,12 @@ use Rattle.dispenser_rules.specs.Session.{fresh_session}
 use Rattle.dispenser_rules.specs.Calls.{Call, called, Request, Own, deed, returned, ending, host}
 use Rattle.dispenser_rules.specs.Unit.{model2000_t, unit}
 use Rattle.dispenser_rules.specs.Errors.{no_errors, last_of as last_for, erred_by_answer, erred_by, errors_from, tells, told_by, last_error_in, ErrorsByHistory}
-use Rattle.dispenser_rules.specs.declared.errors.LastError.{LastError}
-use Rattle.dispenser_rules.specs.declared.errors.LastError.TheVariants.{Of}
+use Rattle.dispenser_rules.specs.LastError.{LastError}
+use Rattle.dispenser_rules.specs.LastError.{Of}
 use Rattle.dispenser_rules.specs.declared.errors.LastErrors.{LastErrors}
 use Rattle.dispenser_rules.specs.declared.session.Closing.TheVariants.{Nothing, Answered, Refused, Unknown}
-use Rattle.dispenser_rules.specs.declared.session.Reply.{Reply}
-use Rattle.dispenser_rules.specs.declared.session.Reply.TheVariants.{NotDone, Done}
+use Rattle.dispenser_rules.specs.Reply.{Reply}
+use Rattle.dispenser_rules.specs.Reply.{NotDone, Done}
 use Rattle.dispenser_rules.specs.declared.session.Session.{Session}
 use Rattle.dispenser_rules.proofs.Shown.{lawful, answers_by}
 use Rattle.dispenser_rules.proofs.Same.{session}
@@ -158,16 +160,20 @@ call_same : (s : Session) (h : History Request Own Ending) (e : LastErrors) (t :
 unfolding commands
 call_same s h e t k c i = by (called s t).reply refl
   where
-    by : (p : Reply) → (called s t).reply ≡ p
-        → last_for (erred_by e p) c ≡ last_error_in (commands model2000_t (told ending (deed t) (returned p) (called s t).room ∷ h)) c
-    by (NotDone why) q = i
-    by (Done n Nothing) q = i ∙ sym (done-kept (deed t) (take n (called s t).room) goes_on tt h c)
-    by (Done n (Answered answer class)) q =
+    closed : (n : ℕ) (x : Closing) → (called s t).reply ≡ Done n x
+        → last_for (erred_by e (Done n x)) c ≡ last_error_in (commands model2000_t (told ending (deed t) (returned (Done n x)) (called s t).room ∷ h)) c
+    closed n Nothing q = i ∙ sym (done-kept (deed t) (take n (called s t).room) goes_on tt h c)
+    closed n (Answered answer class) q =
         answered-same e (deed t) (take n (called s t).room) h answer class c
         (subst (λ (p : Reply). AnsweredBy model2000_t (discipline unit) (told ending (deed t) (returned p) (called s t).room ∷ h) (record { answer = answer; class = class })) q
         (call-carries lawful session s h t n (Answered answer class) (record { answer = answer; class = class }) k (ap returned q) refl)) i
-    by (Done n Refused) q = i ∙ sym (done-kept (deed t) (take n (called s t).room) (closes refused) tt h c)
-    by (Done n Unknown) q = i ∙ sym (done-kept (deed t) (take n (called s t).room) (closes unknown) tt h c)
+    closed n Refused q = i ∙ sym (done-kept (deed t) (take n (called s t).room) (closes refused) tt h c)
+    closed n Unknown q = i ∙ sym (done-kept (deed t) (take n (called s t).room) (closes unknown) tt h c)
+
+    by : (p : Reply) → (called s t).reply ≡ p
+        → last_for (erred_by e p) c ≡ last_error_in (commands model2000_t (told ending (deed t) (returned p) (called s t).room ∷ h)) c
+    by (NotDone why) q = i
+    by (Ok w) q = closed w.put w.closing q
 
 from-same : (s : Session) (h : History Request Own Ending) (e : LastErrors) (ts : List Call) → Kept lawful session s h
     → ((c : Cassette) → last_for e c ≡ last_error_in (commands model2000_t h) c)

@@ -1,4 +1,5 @@
 -- Each number is given exactly when 01 says, and a call that is declined leaves everything as it was. Assumes nothing.
+use Rattle.std.specs.Prelude.{Ok}
 use Prim.Native.Nat.{ℕ}
 use mathlib.Core.Path.{◌≡◌, refl}
 use mathlib.Core.List.{List, []}
@@ -6,8 +7,8 @@ use mathlib.Core.Bool.{Bool, true, false, cond}
 use lib.Dec.{eqb}
 use lib.ListN.{set, take}
 use Rattle.dispenser_frame_rules.specs.Answer.{answer_code, read_answer}
-use Rattle.dispenser_frame_rules.specs.declared.answer.AnswerRead.{AnswerRead}
-use Rattle.dispenser_frame_rules.specs.declared.answer.AnswerRead.TheVariants.{Read, Refused as NotRead}
+use Rattle.dispenser_frame_rules.specs.AnswerRead.{AnswerRead}
+use Rattle.dispenser_frame_rules.specs.AnswerRead.{Refused as NotRead}
 use Rattle.ledger.specs.Calls.{IsDone}
 use Rattle.ledger.proofs.Declining.{told-apart, rising, given-exactly}
 use Rattle.exchange_rules.specs.Exchange.{bad_frame, heard, passed}
@@ -36,8 +37,8 @@ either-told false w v g h = h
 
 judged-told : (x : AnswerRead) (l : Line) (a : Asked) (r : List ℕ) → IsDone (returned (judged_step x l a r).reply)
 unfolding bad_step
-judged-told (Read answer class) l a r =
-    either-told (eqb (answer_code answer) a.code) _ _ (_, (_, refl)) (acted-told (bad_frame l).todo (bad_frame l).line a r)
+judged-told (Ok read) l a r =
+    either-told (eqb (answer_code read.answer) a.code) _ _ (_, (_, refl)) (acted-told (bad_frame l).todo (bad_frame l).line a r)
 judged-told (NotRead fault) l a r = acted-told (bad_frame l).todo (bad_frame l).line a r
 
 byte-told : (t : Heard) (l : Line) (a : Asked) (store : List ℕ) (at b : ℕ) (r : List ℕ) → IsDone (returned (byte_acted t l a store at b r).step.reply)

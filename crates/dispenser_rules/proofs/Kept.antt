@@ -1,4 +1,5 @@
 -- The kept requests are the newest 32 of the history's paying commands: at every call they change as those do. Assumes nothing.
+use Rattle.std.specs.Prelude.{Ok}
 use Prim.Native.Nat.{ℕ, ◌+◌, ◌≤◌, ◌<◌}
 use mathlib.Core.Path.{◌≡◌, refl, sym, ap, subst, ◌∙◌}
 use mathlib.Core.Bool.{Bool, true, false, cond, true≢false}
@@ -42,9 +43,9 @@ use Rattle.dispenser_rules.specs.declared.requests.Requests.{Requests}
 use Rattle.dispenser_rules.specs.declared.session.Asked.{Asked}
 use Rattle.dispenser_rules.specs.declared.session.Closing.{Closing}
 use Rattle.dispenser_rules.specs.declared.session.Closing.TheVariants.{Nothing, Answered, Refused, Unknown}
-use Rattle.dispenser_rules.specs.declared.session.Reply.{Reply}
-use Rattle.dispenser_rules.specs.declared.session.Reply.TheVariants.{NotDone, Done}
-use Rattle.dispenser_rules.specs.declared.session.Step.{Step}
+use Rattle.dispenser_rules.specs.Reply.{Reply}
+use Rattle.dispenser_rules.specs.Reply.{NotDone, Done}
+use Rattle.dispenser_rules.specs.Step.{Step}
 use Rattle.dispenser_rules.specs.declared.session.Session.{Session}
 use Rattle.dispenser_rules.proofs.Shown.{lawful, Says, says, answers_by}
 use Rattle.dispenser_rules.proofs.Same.{session}
@@ -210,20 +211,19 @@ module _ (s : Session) (h : History Request Own Ending) (k : Kept lawful session
           newest-handed Start x g e = ap handed-first (sym e ∙ x.is.split)
           newest-handed Inside x g e = ap handed-first (sym e ∙ x.is.split)
 
-      -- what a byte or a tick answered
-      heard-holds : (p : Reply) → Due-is p → (closes p ≡ true → (put_by p ≤ 1) × (l.handed ≡ s.line.handed)) → Tracks unit b (after p)
-          → ((n : ℕ) (answer : Answer) (class : ErrorClass) → p ≡ Done n (Answered answer class) → AnsweredBy model2000_t (discipline unit) (after p) (record { answer = answer; class = class }))
-          → Goal p
+      -- what a byte or a tick answered, where it did its step
+      done-holds : (n : ℕ) (x : Closing) → Due-is (Done n x) → (closes (Done n x) ≡ true → (n ≤ 1) × (l.handed ≡ s.line.handed)) → Tracks unit b (after (Done n x))
+          → ((m : ℕ) (answer : Answer) (class : ErrorClass) → Done n x ≡ Done m (Answered answer class) → AnsweredBy model2000_t (discipline unit) (after (Done n x)) (record { answer = answer; class = class }))
+          → Goal (Done n x)
       unfolding is_frame commands
-      heard-holds (NotDone why) t c y a = i
-      heard-holds (Done n Nothing) t c y a =
+      done-holds n Nothing t c y a =
           by_cases (under 1 n)
           (λ long. again-holds n long t y)
           (λ short.
           let e = length-take n room in
           let none-put : is_frame (take n room) ≡ false = fails-false (under 1 (length (take n room))) (λ w. short (omega (arith, e))) in
           rw (fails-false (under 1 n) short) (subst (Holds r) (ap entries (sym (commands-still model2000_t h (take n room) d o none-put))) i))
-      heard-holds (Done n (Answered answer class)) t c y a =
+      done-holds n (Answered answer class) t c y a =
           let x = by-closing (Done n (Answered answer class)) (Answered answer class) n refl t (λ e. let z : ◌≡◌ {A = ℕ} 0 1 = cc in omega arith) in
           let w = a n answer class refl in
           let code = w.newest.asks.code in
@@ -236,10 +236,18 @@ module _ (s : Session) (h : History Request Own Ending) (k : Kept lawful session
           ∙ ap (stands (answered_by w.frame)) g.same_code
           ∙ ap (λ (f : Fate). stands f code) (sym w.fate)
           ∙ ap (λ (k : Command Request). stands k.fate k.asks.code) (sym is))
-      heard-holds (Done n Refused) t c y a =
+      done-holds n Refused t c y a =
           closed-holds n refused (c refl).0 (c refl).1 (by-closing (Done n Refused) Refused n refl t (λ e. let z : ◌≡◌ {A = ℕ} 0 1 = cc in omega arith)) WasRefused refl
-      heard-holds (Done n Unknown) t c y a =
+      done-holds n Unknown t c y a =
           closed-holds n unknown (c refl).0 (c refl).1 (by-closing (Done n Unknown) Unknown n refl t (λ e. let z : ◌≡◌ {A = ℕ} 0 1 = cc in omega arith)) WasUnknown refl
+
+      -- what a byte or a tick answered
+      heard-holds : (p : Reply) → Due-is p → (closes p ≡ true → (put_by p ≤ 1) × (l.handed ≡ s.line.handed)) → Tracks unit b (after p)
+          → ((n : ℕ) (answer : Answer) (class : ErrorClass) → p ≡ Done n (Answered answer class) → AnsweredBy model2000_t (discipline unit) (after p) (record { answer = answer; class = class }))
+          → Goal p
+      unfolding commands
+      heard-holds (NotDone why) t c y a = i
+      heard-holds (Ok w) t c y a = done-holds w.put w.closing t c y a
 
 -- ---- a clear and a request
 

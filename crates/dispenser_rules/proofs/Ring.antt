@@ -16,7 +16,7 @@ use Rattle.dispenser_rules.specs.Kept.{at_place}
 use Rattle.dispenser_rules.specs.declared.requests.KeptRequest.{KeptRequest}
 use Rattle.dispenser_rules.specs.declared.requests.Place.{Place}
 use Rattle.dispenser_rules.specs.declared.requests.Requests.{Requests}
-use Rattle.dispenser_rules.specs.declared.requests.KeptAt.TheVariants.{Nothing, Request}
+use Rattle.dispenser_rules.specs.KeptAt.{Nothing, Request}
 
 -- ---- lists
 

@@ -1,18 +1,19 @@
 -- The session of the Model 2000T is the shared session over its unit: each call, as it stands in the contracts, is that call. Assumes nothing.
+use Rattle.std.specs.Prelude.{Ok}
 use Prim.Native.Nat.{ℕ}
 use mathlib.Core.Path.{◌≡◌, refl, sym, ap, ◌∙◌, subst}
 use mathlib.Core.Bool.{Bool, true, false, cond}
 use mathlib.Core.List.{List, [], ◌∷◌}
 use lib.Dec.{eqb}
 use lib.ListN.{set, take}
-use Rattle.refusals.specs.Rules.{Rule, judged, same}
+use Rattle.refusals.specs.Rules.{Rule, judged}
 use Rattle.refusals.proofs.Rules.{either_way}
 use Rattle.ledger.specs.Account.{Ending, answered, refused, unknown}
 use Rattle.ledger.specs.Calls.{After as AfterCall, gave, did}
 use Rattle.dispenser_frame_rules.specs.Table.{answer_length}
 use Rattle.dispenser_frame_rules.specs.Answer.{answer_code, read_answer}
-use Rattle.dispenser_frame_rules.specs.declared.answer.AnswerRead.{AnswerRead}
-use Rattle.dispenser_frame_rules.specs.declared.answer.AnswerRead.TheVariants.{Read, Refused as NotRead}
+use Rattle.dispenser_frame_rules.specs.AnswerRead.{AnswerRead}
+use Rattle.dispenser_frame_rules.specs.AnswerRead.{Refused as NotRead}
 use Rattle.exchange_rules.specs.Limits.{quiet}
 use Rattle.exchange_rules.specs.Exchange.{heard, bad_frame, passed, closed, ends}
 use Rattle.ledger.specs.Told.{good, bad, by_refusal, by_doubt, ending as plain-ending}
@@ -33,16 +34,16 @@ use Rattle.dispenser_rules.specs.declared.account.Cassettes.{Cassettes}
 use Rattle.dispenser_rules.specs.declared.session.Asked.{Asked}
 use Rattle.dispenser_rules.specs.declared.session.Closing.{Closing}
 use Rattle.dispenser_rules.specs.declared.session.Closing.TheVariants.{Nothing, Answered, Refused, Unknown}
-use Rattle.dispenser_rules.specs.declared.session.Reply.{Reply}
-use Rattle.dispenser_rules.specs.declared.session.Reply.TheVariants.{NotDone, Done}
+use Rattle.dispenser_rules.specs.Reply.{Reply}
+use Rattle.dispenser_rules.specs.Reply.{NotDone, Done}
 use Rattle.dispenser_rules.specs.declared.session.Session.{Session}
-use Rattle.dispenser_rules.specs.declared.session.Step.{Step}
+use Rattle.dispenser_rules.specs.Step.{Step}
 
 -- ---- what the shared session has of it
 
 abbrev pub plain-reply : Reply → machine.Reply Good
 plain-reply (NotDone why) = gave why
-plain-reply (Done n c) = did n (plain_closing c)
+plain-reply (Ok effect) = did effect.put (plain_closing effect.closing)
 
 abbrev pub plain-after : After → AfterCall (Box Request Cassettes) (machine.Reply Good)
 plain-after w = record { session = box w.session; reply = plain-reply w.reply; room = w.room }
@@ -83,11 +84,11 @@ module _ (q : Request) (r : List ℕ) where
   bad-same l = acted-same (bad_frame l).todo (bad_frame l).line (bad-shut l)
 
   judged-same : (y : AnswerRead) (l : Line) → plain_step (judged_step y l a r) ≡ machine.judged_step unit (verdict q.code y) l q r
-  judged-same (Read answer class) l = go (eqb (answer_code answer) q.code)
+  judged-same (Ok read) l = go (eqb (answer_code read.answer) q.code)
     where
       go : (t : Bool)
-          → plain_step (cond t (done_after (ends (closed l quiet) (pays q.code) answered) 1 (Answered answer class) (set r 0 0x06)) (bad_step l a r))
-          ≡ machine.judged_step unit (cond t (good (record { answer = answer; class = class })) bad) l q r
+          → plain_step (cond t (done_after (ends (closed l quiet) (pays q.code) answered) 1 (Answered read.answer read.class) (set r 0 0x06)) (bad_step l a r))
+          ≡ machine.judged_step unit (cond t (good (record { answer = read.answer; class = read.class })) bad) l q r
       go true = refl
       go false = bad-same l
   judged-same (NotRead fault) l = bad-same l
@@ -105,12 +106,15 @@ module _ (q : Request) (r : List ℕ) where
 -- ---- the three calls
 
 -- the sums are booked alike
+booked-done : (x : Cassettes) (q : Request) (n : ℕ) (c : Closing) → booked_by x (asked_of q) (Done n c) ≡ machine.booked_by unit x q (plain-reply (Done n c))
+booked-done x q n Nothing = refl
+booked-done x q n (Answered answer class) = refl
+booked-done x q n Refused = refl
+booked-done x q n Unknown = refl
+
 booked-same : (x : Cassettes) (q : Request) (p : Reply) → booked_by x (asked_of q) p ≡ machine.booked_by unit x q (plain-reply p)
 booked-same x q (NotDone why) = refl
-booked-same x q (Done n Nothing) = refl
-booked-same x q (Done n (Answered answer class)) = refl
-booked-same x q (Done n Refused) = refl
-booked-same x q (Done n Unknown) = refl
+booked-same x q (Ok effect) = booked-done x q effect.put effect.closing
 
 -- the length of the answer that is kept is the code's
 abbrev pub Keeps : Session → Type 0
@@ -189,7 +193,7 @@ session-same s c e =
 -- what a call returned, its deed and its room are the same
 pub saying-same : (p : Reply) → saying plain_closing (returned p) ≡ plain-reply p
 saying-same (NotDone why) = refl
-saying-same (Done n c) = refl
+saying-same (Ok effect) = refl
 
 pub deed-same : (c : Call) → deed c ≡ machine.deed (means c)
 deed-same (request code upper lower r) = refl

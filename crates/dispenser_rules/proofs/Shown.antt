@@ -1,4 +1,6 @@
 -- The Model 2000T keeps to what a unit of the shared session has to: its frames, and its two cassettes booked by what an answer's bytes say. Assumes nothing.
+use Rattle.std.proofs.lemmas.Result.{IfOk-at_ok}
+use Rattle.std.specs.Prelude.{Ok}
 use Prim.Native.Nat.{ℕ, ◌≤◌, ◌<◌}
 use mathlib.Core.Path.{◌≡◌, refl, sym, ap, ap₂, ◌∙◌, subst}
 use mathlib.Core.Bool.{Bool, false}
@@ -20,8 +22,8 @@ use Rattle.dispenser_frame_rules.specs.declared.answer.Cassette.{Cassette}
 use Rattle.dispenser_frame_rules.specs.declared.answer.Cassette.TheVariants.{Upper, Lower}
 use Rattle.dispenser_frame_rules.specs.declared.answer.Answer.{Answer}
 use Rattle.dispenser_frame_rules.specs.declared.answer.Answer.TheVariants.{Purged, PaidOne, PaidBoth, Tested, Status}
-use Rattle.dispenser_frame_rules.specs.declared.answer.AnswerRead.{AnswerRead}
-use Rattle.dispenser_frame_rules.specs.declared.answer.AnswerRead.TheVariants.{Read, Refused}
+use Rattle.dispenser_frame_rules.specs.AnswerRead.{AnswerRead}
+use Rattle.dispenser_frame_rules.specs.AnswerRead.{Read, Refused}
 use Rattle.xor_frame.proofs.Lengths.{length-known}
 use Rattle.dispenser_frame_rules.proofs.Codes.{by_code, command-most, answer-most}
 use Rattle.dispenser_frame_rules.proofs.Trips.{command-length}
@@ -62,7 +64,7 @@ says f answer class e =
     absurd (let z : ◌≡◌ {A = ℕ} 0 1 = cc in omega arith))
     (λ none.
     let r : read_as (answer_in f) ≡ Read answer class = sym (none-judged Refused (read_as (answer_in f)) (answer_faults f) none) ∙ e in
-    let a : answer_in f ≡ answer = cc in
+    let a : answer_in f ≡ answer = IfOk-at_ok (λ x. answer_in f ≡ x.answer) r refl in
     subst (λ (x : Answer). Says x f) a (says-in f (code_of f)))
     (first_or_none (answer_faults f))
 
@@ -74,9 +76,9 @@ pub record Answers (code : ℕ) (x : Good) (y : AnswerRead) : Type 0 where
   pub same_code : answer_code x.answer ≡ code
 
 pub answers_by : (code : ℕ) (x : Good) (y : AnswerRead) → verdict code y ≡ good x → Answers code x y
-answers_by code x (Read answer class) e =
-    pick (λ (v : Verdict Good). v ≡ good x → Answers code x (Read answer class)) (same (answer_code answer) code) _ _
-    (λ h g. let a : record { answer = answer; class = class } ≡ x = cc in subst (λ (z : Good). Answers code z (Read answer class)) a (record { read = refl; same_code = h }))
+answers_by code x (Ok read') e =
+    pick (λ (v : Verdict Good). v ≡ good x → Answers code x (Read read'.answer read'.class)) (same (answer_code read'.answer) code) _ _
+    (λ h g. let a : record { answer = read'.answer; class = read'.class } ≡ x = cc in subst (λ (z : Good). Answers code z (Read read'.answer read'.class)) a (record { read = refl; same_code = h }))
     (λ n g. absurd (let z : ◌≡◌ {A = ℕ} 0 1 = cc in omega arith))
     e
 answers_by code x (Refused f) e = absurd (let z : ◌≡◌ {A = ℕ} 0 1 = cc in omega arith)

@@ -11,8 +11,8 @@ use Rattle.refusals.specs.Rules.{Rule, under, same, NoneOf}
 use Rattle.refusals.proofs.Rules.{by_cases, cond-true, cond-false, holds-true, fails-false, none-judged, first_or_none}
 use Rattle.dispenser_frame_rules.specs.Answer.{answer_code, read_answer}
 use Rattle.dispenser_frame_rules.specs.declared.answer.Answer.{Answer}
-use Rattle.dispenser_frame_rules.specs.declared.answer.AnswerRead.{AnswerRead}
-use Rattle.dispenser_frame_rules.specs.declared.answer.AnswerRead.TheVariants.{Read}
+use Rattle.dispenser_frame_rules.specs.AnswerRead.{AnswerRead}
+use Rattle.dispenser_frame_rules.specs.AnswerRead.{Read}
 use Rattle.exchange_rules.specs.Limits.{quiet, answer_wait, frame_wait}
 use Rattle.exchange_rules.specs.Exchange.{is_open, turn, opened, closed, doubted, ends, starting, inside, waits, first_byte, start_byte, inside_byte, heard_in, heard, expired_in, expired, passed}
 use Rattle.dispenser_rules.specs.Session.{pays, StepAfter, ByteAfter, OpeningAfter, After, opening_after, refused_opening, hand_over, command, request_refusals, request_step, account_asked, session_request, step_after, byte_after, refused_step, acted, judged_step, judge_step, byte_acted, byte_refusals, tick_refusals, byte_step, tick_step, account_heard, session_byte, session_tick, clear_refusals, clear_step, session_clear}
@@ -27,8 +27,8 @@ use Rattle.exchange_rules.specs.declared.line.Todo.TheVariants.{Nothing}
 use Rattle.exchange_rules.specs.declared.line.Turn.{Turn}
 use Rattle.exchange_rules.specs.declared.line.Hearing.{Hearing}
 use Rattle.dispenser_rules.specs.declared.session.Closing.TheVariants.{Nothing as NoClosing, Answered}
-use Rattle.dispenser_rules.specs.declared.session.Reply.TheVariants.{Done}
-use Rattle.dispenser_rules.specs.declared.session.Step.{Step}
+use Rattle.dispenser_rules.specs.Reply.{Done}
+use Rattle.dispenser_rules.specs.Step.{Step}
 use Rattle.dispenser_rules.specs.declared.session.Session.{Session}
 
 -- the session goes on with this line and store: nothing is put, nothing closes

@@ -1,14 +1,14 @@
 -- Any calls at all on a session of the Model 2000T (01, "What the proofs must leave no choice about"), as their caller sees them. The session after calls, and their
 -- history, are those of every line (`ledger`).
-use Rattle.std.specs.Prelude.{ℕ, List, []}
+use Rattle.std.specs.Prelude.{ℕ, List, [], Ok}
 use Rattle.ledger.specs.Events.{Deed, asks, hears, waits, own, Left, goes_on, closes, History}
 use Rattle.ledger.specs.Account.{Ending, answered, refused, unknown}
 use Rattle.ledger.specs.Calls.{Returned, gave, did, Host, history_from}
 use Rattle.dispenser_rules.specs.Session.{After, fresh_session, session_request, session_byte, session_tick, session_clear}
 use Rattle.dispenser_rules.specs.declared.session.Closing.{Closing}
 use Rattle.dispenser_rules.specs.declared.session.Closing.TheVariants.{Nothing, Answered, Refused, Unknown}
-use Rattle.dispenser_rules.specs.declared.session.Reply.{Reply}
-use Rattle.dispenser_rules.specs.declared.session.Reply.TheVariants.{NotDone, Done}
+use Rattle.dispenser_rules.specs.Reply.{Reply}
+use Rattle.dispenser_rules.specs.Reply.{NotDone}
 use Rattle.dispenser_rules.specs.declared.session.Session.{Session}
 
 -- a call, with any arguments and any room
@@ -43,7 +43,7 @@ deed clear = own clears
 -- what a call returned
 abbrev pub returned : Reply → Returned Closing
 returned (NotDone why) = gave why
-returned (Done n closing) = did n closing
+returned (Ok effect) = did effect.put effect.closing
 
 -- of an answer the history has no more than that it came
 abbrev pub ending : Closing → Left Ending

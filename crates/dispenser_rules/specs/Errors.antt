@@ -1,6 +1,6 @@
 -- The last error of each cassette (02, Q-5: "from paying and test answers, \"none\" before any. For a pay-both answer the same name stands on both"): after what each
 -- call answered, and told from a history.
-use Rattle.std.specs.Prelude.{ℕ, ◌≡◌, Bool, cond, ◌||◌, List, [], ◌∷◌, eqb}
+use Rattle.std.specs.Prelude.{ℕ, ◌≡◌, Bool, cond, ◌||◌, List, [], ◌∷◌, eqb, Ok}
 use Rattle.ledger.specs.Account.{Fate, waiting, answered_by, turned_down, in_doubt, Command, commands}
 use Rattle.error_codes.specs.Errors.{error_class}
 use Rattle.error_codes.specs.declared.ErrorClass.{ErrorClass}
@@ -13,13 +13,13 @@ use Rattle.dispenser_frame_rules.specs.declared.answer.Answer.TheVariants.{Purge
 use Rattle.dispenser_rules.specs.Session.{fresh_session}
 use Rattle.dispenser_rules.specs.Calls.{Call, called, Request, history}
 use Rattle.dispenser_rules.specs.Unit.{model2000_t}
-use Rattle.dispenser_rules.specs.declared.errors.LastError.{LastError}
-use Rattle.dispenser_rules.specs.declared.errors.LastError.TheVariants.{NoneYet, Of}
+use Rattle.dispenser_rules.specs.LastError.{LastError}
+use Rattle.dispenser_rules.specs.LastError.{NoneYet, Of}
 use Rattle.dispenser_rules.specs.declared.errors.LastErrors.{LastErrors}
 use Rattle.dispenser_rules.specs.declared.session.Closing.{Closing}
 use Rattle.dispenser_rules.specs.declared.session.Closing.TheVariants.{Nothing, Answered, Refused, Unknown}
-use Rattle.dispenser_rules.specs.declared.session.Reply.{Reply}
-use Rattle.dispenser_rules.specs.declared.session.Reply.TheVariants.{NotDone, Done}
+use Rattle.dispenser_rules.specs.Reply.{Reply}
+use Rattle.dispenser_rules.specs.Reply.{NotDone}
 use Rattle.dispenser_rules.specs.declared.session.Session.{Session}
 
 -- ---- after what a call answered
@@ -52,7 +52,7 @@ erred_by_closing e Unknown = e
 
 abbrev pub erred_by : LastErrors → Reply → LastErrors
 erred_by e (NotDone why) = e
-erred_by e (Done n closing) = erred_by_closing e closing
+erred_by e (Ok effect) = erred_by_closing e effect.closing
 
 -- after calls
 unfoldable pub errors_from : Session → LastErrors → List Call → LastErrors

@@ -12,8 +12,8 @@ use Rattle.dispenser_rules.specs.Unit.{exit_of, model2000_t}
 use Rattle.dispenser_rules.specs.declared.requests.Standing.{Standing}
 use Rattle.dispenser_rules.specs.declared.requests.Standing.TheVariants.{Open, Answered, Refused, Unknown}
 use Rattle.dispenser_rules.specs.declared.requests.KeptRequest.{KeptRequest}
-use Rattle.dispenser_rules.specs.declared.requests.KeptAt.{KeptAt}
-use Rattle.dispenser_rules.specs.declared.requests.KeptAt.TheVariants.{Nothing, Request as Found}
+use Rattle.dispenser_rules.specs.KeptAt.{KeptAt}
+use Rattle.dispenser_rules.specs.KeptAt.{Nothing, Request as Found}
 
 -- how a command of the history stands; what was paid by an answer is read off its bytes
 abbrev pub stands : Fate → ℕ → Standing

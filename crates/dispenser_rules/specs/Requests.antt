@@ -7,8 +7,8 @@ use Rattle.dispenser_rules.specs.declared.requests.KeptRequest.{KeptRequest}
 use Rattle.dispenser_rules.specs.declared.requests.Place.{Place}
 use Rattle.dispenser_rules.specs.declared.requests.Requests.{Requests}
 use Rattle.dispenser_rules.specs.declared.requests.Written.{Written}
-use Rattle.dispenser_rules.specs.declared.requests.KeptAt.{KeptAt}
-use Rattle.dispenser_rules.specs.declared.requests.KeptAt.TheVariants.{Nothing, Request}
+use Rattle.dispenser_rules.specs.KeptAt.{KeptAt}
+use Rattle.dispenser_rules.specs.KeptAt.{Nothing, Request}
 
 -- "the last 32 paying requests"
 abbrev pub most : ℕ

@@ -1,8 +1,8 @@
 -- The dispenser session, call by call (01, "The dispenser session" and "Numbers a call can answer").
-use Rattle.std.specs.Prelude.{ℕ, ◌+◌, Bool, cond, ◌||◌, List, [], ◌∷◌, eqb, ltb, length, take, set, replicate}
+use Rattle.std.specs.Prelude.{ℕ, ◌+◌, Bool, cond, ◌||◌, List, [], ◌∷◌, eqb, ltb, length, take, set, replicate, Ok}
 use Rattle.refusals.specs.Rules.{Condition, Rule, says, under, at_most, within, both, isnt, judged, ◌gives◌}
-use Rattle.refusals.specs.declared.Put.{Put}
-use Rattle.refusals.specs.declared.Put.TheVariants.{Bytes, Refused as NotPut}
+use Rattle.refusals.specs.Put.{Put}
+use Rattle.refusals.specs.Put.{Bytes, Refused as NotPut}
 use Rattle.dispenser_frame_rules.specs.Table.{pay_upper_code, pay_lower_code, pay_both_code, answer_length}
 use Rattle.dispenser_frame_rules.specs.Command.{sendable, write_command}
 use Rattle.dispenser_frame_rules.specs.Answer.{answer_code, read_answer}
@@ -10,8 +10,8 @@ use Rattle.dispenser_frame_rules.specs.declared.answer.Cassette.{Cassette}
 use Rattle.dispenser_frame_rules.specs.declared.answer.Cassette.TheVariants.{Upper, Lower}
 use Rattle.dispenser_frame_rules.specs.declared.answer.Answer.{Answer}
 use Rattle.dispenser_frame_rules.specs.declared.answer.Answer.TheVariants.{Purged, PaidOne, PaidBoth, Tested, Status}
-use Rattle.dispenser_frame_rules.specs.declared.answer.AnswerRead.{AnswerRead}
-use Rattle.dispenser_frame_rules.specs.declared.answer.AnswerRead.TheVariants.{Read, Refused as NotRead}
+use Rattle.dispenser_frame_rules.specs.AnswerRead.{AnswerRead}
+use Rattle.dispenser_frame_rules.specs.AnswerRead.{Refused as NotRead}
 use Rattle.exchange_rules.specs.Limits.{quiet, doubt_limit, least_room, command_limit, longest_tick}
 use Rattle.exchange_rules.specs.Sums.{notes}
 use Rattle.exchange_rules.specs.Exchange.{fresh_line, opened, closed, doubted, ends, is_open, heard, bad_frame, passed}
@@ -37,12 +37,12 @@ use Rattle.refusals.specs.declared.Declined.TheVariants.{Room, Range, Open, Unqu
 use Rattle.dispenser_rules.specs.declared.session.Asked.{Asked}
 use Rattle.dispenser_rules.specs.declared.session.Closing.{Closing}
 use Rattle.dispenser_rules.specs.declared.session.Closing.TheVariants.{Nothing, Answered, Refused, Unknown}
-use Rattle.dispenser_rules.specs.declared.session.Reply.{Reply}
-use Rattle.dispenser_rules.specs.declared.session.Reply.TheVariants.{NotDone, Done}
-use Rattle.dispenser_rules.specs.declared.session.Step.{Step}
+use Rattle.dispenser_rules.specs.Reply.{Reply}
+use Rattle.dispenser_rules.specs.Reply.{NotDone, Done}
+use Rattle.dispenser_rules.specs.Step.{Step}
 use Rattle.dispenser_rules.specs.declared.session.Opening.{Opening}
 use Rattle.dispenser_rules.specs.declared.session.Session.{Session}
-use Rattle.dispenser_rules.specs.declared.session.Outcome.{Outcome}
+use Rattle.dispenser_rules.specs.Outcome.{Outcome}
 
 -- ---- what a call leaves
 
@@ -134,8 +134,8 @@ bad_step l a r = acted (bad_frame l).todo (bad_frame l).line a r
 
 -- "Good answer with the code asked: send 06h and close as answered."
 abbrev pub judged_step : AnswerRead → Line → Asked → List ℕ → StepAfter
-judged_step (Read answer class) l a r =
-    cond (eqb (answer_code answer) a.code) (done_after (ends (closed l quiet) (pays a.code) answered) 1 (Answered answer class) (set r 0 0x06)) (bad_step l a r)
+judged_step (Ok read) l a r =
+    cond (eqb (answer_code read.answer) a.code) (done_after (ends (closed l quiet) (pays a.code) answered) 1 (Answered read.answer read.class) (set r 0 0x06)) (bad_step l a r)
 judged_step (NotRead fault) l a r = bad_step l a r
 
 unfoldable pub judge_step : Line → Asked → List ℕ → List ℕ → StepAfter
@@ -217,11 +217,11 @@ closed_by a c Unknown = account_unknown a c
 
 abbrev pub booked_by : Cassettes → Asked → Reply → Cassettes
 booked_by a c (NotDone why) = a
-booked_by a c (Done n closing) = closed_by a c closing
+booked_by a c (Ok effect) = closed_by a c effect.closing
 
 abbrev pub request_booked : Cassettes → Asked → Reply → Cassettes
 request_booked a c (NotDone why) = a
-request_booked a c (Done n closing) = account_opened a c
+request_booked a c (Ok effect) = account_opened a c
 
 -- ---- the kept requests, written from what a call answered (02, Q-6: "the last 32 paying requests with code, counts asked, hand-overs and how each closed, .. an open
 -- one as open")
@@ -254,12 +254,12 @@ written_at p c n put Unknown = wrote p c n WasUnknown
 
 abbrev pub written_by : Place → Asked → ℕ → Reply → Written
 written_by p c n (NotDone why) = unwritten
-written_by p c n (Done put closing) = written_at p c n put closing
+written_by p c n (Ok effect) = written_at p c n effect.put effect.closing
 
 -- an accepted paying request takes the next slot
 abbrev pub place_after : Place → Asked → Reply → Place
 place_after p c (NotDone why) = p
-place_after p c (Done put closing) = cond (pays c.code) (advanced p) p
+place_after p c (Ok effect) = cond (pays c.code) (advanced p) p
 
 abbrev pub requests_at : Place → Requests → Asked → ℕ → Reply → Requests
 requests_at p r c n reply = record { place = p; slots = slots_after r.slots (written_by p c n reply) }

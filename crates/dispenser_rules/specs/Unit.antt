@@ -1,5 +1,5 @@
 -- The Model 2000T, as a unit of the shared session (`exchange_rules`): what is asked of its two cassettes, in which bytes, and what an answer's bytes say of them.
-use Rattle.std.specs.Prelude.{ℕ, cond, List, [], eqb, take, drop}
+use Rattle.std.specs.Prelude.{ℕ, cond, List, [], eqb, take, drop, Ok}
 use Rattle.error_codes.specs.declared.ErrorClass.{ErrorClass}
 use Rattle.numbers.specs.Decimal.{number}
 use Rattle.ledger.specs.Account.{Dispenser}
@@ -12,8 +12,8 @@ use Rattle.dispenser_frame_rules.specs.Answer.{answer_code, read_answer}
 use Rattle.dispenser_frame_rules.specs.declared.answer.Cassette.{Cassette}
 use Rattle.dispenser_frame_rules.specs.declared.answer.Cassette.TheVariants.{Upper, Lower}
 use Rattle.dispenser_frame_rules.specs.declared.answer.Answer.{Answer}
-use Rattle.dispenser_frame_rules.specs.declared.answer.AnswerRead.{AnswerRead}
-use Rattle.dispenser_frame_rules.specs.declared.answer.AnswerRead.TheVariants.{Read, Refused as NotRead}
+use Rattle.dispenser_frame_rules.specs.AnswerRead.{AnswerRead}
+use Rattle.dispenser_frame_rules.specs.AnswerRead.{Refused as NotRead}
 use Rattle.dispenser_rules.specs.Account.{account_opened, account_answered, account_refused, account_unknown}
 use Rattle.dispenser_rules.specs.Session.{hand_over, pays, command}
 use Rattle.dispenser_rules.specs.Calls.{Call, request, byte, tick, clear, Request, Own, clears}
@@ -77,7 +77,7 @@ asked_of q = command q.code q.upper q.lower
 
 -- "Good answer with the code asked"; any other full frame is bad
 abbrev pub verdict : ℕ → AnswerRead → Verdict Good
-verdict code (Read answer class) = cond (eqb (answer_code answer) code) (good (record { answer = answer; class = class })) bad
+verdict code (Ok read) = cond (eqb (answer_code read.answer) code) (good (record { answer = read.answer; class = read.class })) bad
 verdict code (NotRead fault) = bad
 
 abbrev pub unit : Model Request Good Cassettes Cassette

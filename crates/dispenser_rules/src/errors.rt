@@ -4,17 +4,11 @@ ghost use Rattle.dispenser_rules.specs.Errors.{no_errors};
 
 use error_codes::ErrorClass;
 
-// None before any paying or test answer for the cassette; then the class of the error byte of the last one.
-#[derive(Clone, Copy)]
-pub enum LastError {
-    NoneYet,
-    Of(ErrorClass),
-}
-
+// Of each cassette none before any paying or test answer for it; then the class of the error byte of the last one.
 #[derive(Clone, Copy)]
 pub struct LastErrors {
-    pub upper: LastError,
-    pub lower: LastError,
+    pub upper: Option<ErrorClass>,
+    pub lower: Option<ErrorClass>,
 }
 
 impl LastErrors {
@@ -22,8 +16,8 @@ impl LastErrors {
         ensures { result ≡ no_errors }
     {
         LastErrors {
-            upper: LastError::NoneYet,
-            lower: LastError::NoneYet,
+            upper: None,
+            lower: None,
         }
     }
 }

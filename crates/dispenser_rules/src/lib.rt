@@ -8,6 +8,6 @@ mod requests;
 mod session;
 
 pub use account::{Account, Cassettes};
-pub use errors::{LastError, LastErrors};
-pub use requests::{KeptAt, KeptRequest, Place, Requests, Standing, Written};
+pub use errors::LastErrors;
+pub use requests::{KeptRequest, Place, Requests, Standing, Written};
 pub use session::{Asked, Closing, Opening, Outcome, Reply, Session, Step};

@@ -44,13 +44,6 @@ pub struct Written {
     pub request: KeptRequest,
 }
 
-// What stands at a place of the kept requests, the oldest at 0.
-#[derive(Clone, Copy)]
-pub enum KeptAt {
-    Nothing,
-    Request(KeptRequest),
-}
-
 impl Requests {
     // So many are kept: document 02, Q-6.
     pub const MOST: usize = 32;

@@ -5,8 +5,8 @@
 // Events are records on standard input, as those of `host`; milliseconds and bytes from the validator are used. Each is answered by the bytes to send, if any, and done; the last by what came of it.
 #![tactic(auto)]
 
-use filter::Event;
 use recording::Record;
+use refusals::Done;
 use sheet::print_text;
 use validator_rules::{Closing, Outcome, Reply, Session};
 
@@ -48,8 +48,8 @@ fn run(rt: HostRuntime, types: &[u8; 6]) {
         sent: false,
         closed: false,
     };
-    for _ in 0..filter::TURNS {
-        let Event::Whole(x) = filter::next(&mut rt.stdin()) else {
+    for _ in 0..u64::MAX {
+        let Ok(Some(x)) = filter::next(&mut rt.stdin()) else {
             return;
         };
         let next = event(rt, now, x, types);
@@ -93,8 +93,8 @@ fn asked(rt: HostRuntime, was: Enabling, types: &[u8; 6]) -> Enabling {
     let outcome = validator::request(session, ENABLE, types, &mut room);
     let reply = outcome.reply;
     match reply {
-        Reply::NotDone(_) => was,
-        Reply::Done { put: _, closing: _ } => left(rt, true, outcome, &room),
+        Err(_) => was,
+        Ok(_) => left(rt, true, outcome, &room),
     }
 }
 
@@ -111,8 +111,8 @@ fn left(rt: HostRuntime, sent: bool, outcome: Outcome, room: &[u8; 255]) -> Enab
 
 fn has_closed(rt: HostRuntime, reply: Reply, room: &[u8]) -> bool {
     match reply {
-        Reply::NotDone(_) => false,
-        Reply::Done { put, closing } => {
+        Err(_) => false,
+        Ok(Done { put, closing }) => {
             let _ = filter::send(&mut rt.stdout(), b"send validator", put, room);
             has_told(rt, closing)
         }

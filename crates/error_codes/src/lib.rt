@@ -149,13 +149,10 @@ pub fn class_of(error: u8) -> ErrorClass
 fn searched(error: u8) -> ErrorClass
     ensures { result ≡ error_class error }
 {
-    let mut i: usize = 0;
-    while i < 27 {
-        let entry = PUBLISHED[i];
+    for entry in &PUBLISHED {
         if entry.code == error {
             return entry.class;
         }
-        i += 1;
     }
     ErrorClass::Unlisted
 }

@@ -30,6 +30,12 @@ use Rattle.exchange.proofs.sums.closed_unknown.Kinds as sums-closed-unknown
 use Rattle.exchange.proofs.sums.closed_unknown.Reads as sums-closed-unknown-reads
 use Rattle.exchange.proofs.sums.rejected.Kinds as sums-rejected
 use Rattle.exchange.proofs.sums.rejected.Reads as sums-rejected-reads
+use Rattle.exchange.proofs.step.keep.Kinds as keep
+use Rattle.exchange.proofs.step.keep.Reads as keep-reads
+use Rattle.exchange.proofs.step.send.Kinds as send
+use Rattle.exchange.proofs.step.send.Reads as send-reads
+use Rattle.exchange.proofs.step.gathered.Kinds as gathered
+use Rattle.exchange.proofs.step.gathered.Reads as gathered-reads
 
 pub is-open-tied : Tied is_open.ps is_open.r is-open-reads.Post (λ κs x e. x)
 is-open-tied =
@@ -105,3 +111,12 @@ pub sums-rejected-tied : Tied sums-rejected.ps sums-rejected.r sums-rejected-rea
 sums-rejected-tied =
     tied sums-rejected.ps sums-rejected.r sums-rejected-reads.Post (λ κs x e. x) _
     (λ κs a x e p. p)
+
+pub keep-tied : Tied keep.ps keep.r keep-reads.Post (λ κs x e. e.0.now)
+keep-tied = tied keep.ps keep.r keep-reads.Post (λ κs x e. e.0.now) _ (λ κs a x e p. p)
+
+pub send-tied : Tied send.ps send.r send-reads.Post (λ κs x e. e.0.now)
+send-tied = tied send.ps send.r send-reads.Post (λ κs x e. e.0.now) _ (λ κs a x e p. p)
+
+pub gathered-tied : Tied gathered.ps gathered.r gathered-reads.Post (λ κs x e. x.now)
+gathered-tied = tied gathered.ps gathered.r gathered-reads.Post (λ κs x e. x.now) _ (λ κs a x e p. p)

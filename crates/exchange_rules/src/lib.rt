@@ -4,6 +4,8 @@
 
 mod line;
 mod notes;
+mod step;
 
 pub use line::{Heard, Hearing, Line, Phase, Todo, Turn};
 pub use notes::{Notes, Sums};
+pub use step::Step;

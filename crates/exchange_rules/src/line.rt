@@ -3,7 +3,7 @@ ghost use Rattle.std.specs.Prelude.{◌≡◌};
 ghost use Rattle.exchange_rules.specs.Exchange.{fresh_line};
 
 // Where the line stands: nothing open; waiting for the first byte since a hand-over; for an answer to start; inside an answer.
-#[derive(Clone, Copy)]
+#[derive(Clone, Copy, PartialEq, Eq)]
 pub enum Phase {
     Idle,
     First,

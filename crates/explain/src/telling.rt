@@ -1,9 +1,7 @@
 // A recording, told record by record as its bytes come.
-ghost use Rattle.std.specs.Prelude.{◌<◌};
-
 use dispenser_rules::Reply;
 use grading_rules::Replaying;
-use recording::{Outcome, Place, Reader, Record};
+use recording::{Place, Reader, Record};
 use spoken::lines::Run;
 use spoken::{Live, lines};
 use std::io;
@@ -76,8 +74,8 @@ pub(crate) fn tell<R: Read, W: Write>(
     most: u64,
 ) -> Result<(), Untold> {
     let mut telling = fresh(most);
-    let mut turns: u64 = Reader::MOST + 1;
-    while 0 < turns {
+    // More turns than a recording may have bytes: each but the last reads one at least.
+    for _ in 0..Reader::MOST + 1 {
         let n = match input.read(piece) {
             Ok(n) => n,
             Err(why) => {
@@ -85,36 +83,18 @@ pub(crate) fn tell<R: Read, W: Write>(
                 return Err(Untold::Unread(why));
             }
         };
-        let next = through(out, telling, &piece[0..n], from)?;
-        telling = next;
-        turns = left(turns, n, is_bad(telling));
+        telling = through(out, telling, &piece[..n], from)?;
+        if n == 0 || is_bad(telling) {
+            break;
+        }
     }
     finish(out, telling)?;
     Ok(())
 }
 
-// How many pieces may follow: none where nothing came, or a fault has shown.
-fn left(turns: u64, n: usize, bad: bool) -> u64
-    requires { 0 < turns }
-    ensures { result < turns }
-{
-    if n == 0 {
-        return 0;
-    }
-    if bad {
-        return 0;
-    }
-    turns - 1
-}
-
 // Has a fault shown? Then no further byte counts.
 fn is_bad(telling: Telling) -> bool {
-    let reader = telling.reader;
-    let place = reader.place;
-    match place {
-        Place::Broken(_) => true,
-        _ => false,
-    }
+    matches!(telling.reader.place, Place::Broken(_))
 }
 
 // Every byte of a piece, up to a fault.
@@ -125,11 +105,10 @@ fn through<W: Write>(
     from: u64,
 ) -> io::Result<Telling> {
     let mut next = telling;
-    for b in piece {
-        let following = byte(out, next, *b, from)?;
-        next = following;
+    for &b in piece {
+        next = byte(out, next, b, from)?;
         if is_bad(next) {
-            return Ok(next);
+            break;
         }
     }
     Ok(next)
@@ -143,19 +122,22 @@ fn byte<W: Write>(out: &mut W, telling: Telling, b: u8, from: u64) -> io::Result
     let at = so_far.live.written as u64 + begun.held as u64;
     let step = reader.taken(at, b);
     let next = step.reader;
-    let outcome = step.outcome;
+    let ended = match step.outcome {
+        Ok(ended) => ended,
+        Err(_) => None,
+    };
     Ok(Telling {
         reader: next,
-        begun: bytes_after(outcome, begun, b),
-        so_far: told_after(out, outcome, so_far, from)?,
+        begun: bytes_after(ended, begun, b),
+        so_far: told_after(out, ended, so_far, from)?,
     })
 }
 
-// The bytes of the record that is begun, after what a byte brought.
-fn bytes_after(outcome: Outcome, begun: Begun, b: u8) -> Begun {
-    match outcome {
-        Outcome::Whole(_) => none_begun(),
-        _ => longer(begun, b),
+// The bytes of the record that is begun, after a byte that ended a record or none.
+fn bytes_after(ended: Option<Record>, begun: Begun, b: u8) -> Begun {
+    match ended {
+        Some(_) => none_begun(),
+        None => longer(begun, b),
     }
 }
 
@@ -172,13 +154,13 @@ fn longer(begun: Begun, b: u8) -> Begun {
 // And what is told.
 fn told_after<W: Write>(
     out: &mut W,
-    outcome: Outcome,
+    ended: Option<Record>,
     so_far: SoFar,
     from: u64,
 ) -> io::Result<SoFar> {
-    match outcome {
-        Outcome::Whole(x) => record(out, so_far, x, from),
-        _ => Ok(so_far),
+    match ended {
+        Some(x) => record(out, so_far, x, from),
+        None => Ok(so_far),
     }
 }
 
@@ -203,26 +185,17 @@ fn record<W: Write>(out: &mut W, so_far: SoFar, x: Record, from: u64) -> io::Res
 
 // Is a record to be told: does it stand far enough, and are some left?
 fn is_wanted(offset: u64, from: u64, left: u64) -> bool {
-    if offset < from {
-        return false;
-    }
-    0 < left
+    from <= offset && 0 < left
 }
 
 fn fewer(left: u64, wanted: bool) -> u64 {
-    if !wanted {
-        return left;
-    }
-    if left == 0 {
-        return 0;
-    }
-    left - 1
+    if wanted { left.saturating_sub(1) } else { left }
 }
 
 // The milliseconds since the start, after a record: a tick passes them, unless it is refused. The sum stays where it would not fit.
 fn later(ms: u64, x: Record, reply: Reply) -> u64 {
     match reply {
-        Reply::NotDone(_) => ms,
+        Err(_) => ms,
         _ => match x {
             Record::Tick(n) => plus(ms, n),
             _ => ms,
@@ -232,9 +205,10 @@ fn later(ms: u64, x: Record, reply: Reply) -> u64 {
 
 fn plus(ms: u64, n: u32) -> u64 {
     if ms < 9_223_372_036_854_775_808 {
-        return ms + n as u64;
+        ms + n as u64
+    } else {
+        ms
     }
-    ms
 }
 
 // A record with what was made of it, if it is to be told.
@@ -258,9 +232,7 @@ fn shown<W: Write>(
 
 // A read has failed: the line at hand ends, and nothing is said of the whole, since its rest is not known.
 fn cut<W: Write>(out: &mut W, telling: Telling) -> io::Result<()> {
-    let so_far = telling.so_far;
-    let run = so_far.run;
-    lines::end(out, run)
+    lines::end(out, telling.so_far.run)
 }
 
 // The recording has ended, or a fault has shown.
@@ -290,13 +262,7 @@ fn finish<W: Write>(out: &mut W, telling: Telling) -> io::Result<()> {
 fn end<W: Write>(out: &mut W, replay: Replaying, bytes: &[u8], held: usize) -> io::Result<()> {
     let reader = replay.reader;
     let desk = replay.desk;
-    if Reader::MOST < reader.start {
-        return Ok(());
-    }
-    if desk.records < desk.declined {
-        return Ok(());
-    }
-    if replay.fed < desk.records {
+    if Reader::MOST < reader.start || desk.records < desk.declined || replay.fed < desk.records {
         return Ok(());
     }
     spoken::ending(out, grading::ended(replay), bytes, held)

@@ -31,26 +31,18 @@ pub fn fed_from<R: Read>(rt: HostRuntime, input: &mut R, piece: &mut [u8]) -> Fe
     ensures { Counted result.replay }
 {
     let mut replay = Replaying::fresh();
-    let mut turns: u64 = Reader::MOST + 1;
     let mut progress = progress::start(rt);
-    while 0 < turns {
+    for _ in 0..Reader::MOST + 1 {
         let n = match input.read(piece) {
+            Ok(0) => break,
             Ok(n) => n,
-            Err(why) => {
-                return left(rt, replay, progress, Some(why));
-            }
+            Err(why) => return left(rt, replay, progress, Some(why)),
         };
-        if n == 0 {
-            return left(rt, replay, progress, None);
-        }
-        let next = grading::feed(replay, &piece[0..n]);
-        replay = next;
+        replay = grading::feed(replay, &piece[..n]);
         if is_bad(replay) {
-            return left(rt, replay, progress, None);
+            break;
         }
-        let following = progress::reached(rt, progress, replay.fed);
-        progress = following;
-        turns -= 1;
+        progress = progress::reached(rt, progress, replay.fed);
     }
     left(rt, replay, progress, None)
 }
@@ -67,19 +59,13 @@ fn left(rt: HostRuntime, replay: Replaying, progress: Progress, failed: Option<i
 // The same, and then the recording has ended.
 pub fn replay_from<R: Read>(rt: HostRuntime, input: &mut R, piece: &mut [u8]) -> Replayed {
     let fed = fed_from(rt, input, piece);
-    let replay = fed.replay;
     Replayed {
         failed: fed.failed,
-        found: grading::ended(replay),
+        found: grading::ended(fed.replay),
     }
 }
 
 // Has a fault shown? Then no further byte counts.
 fn is_bad(replay: Replaying) -> bool {
-    let reader = replay.reader;
-    let place = reader.place;
-    match place {
-        Place::Broken(_) => true,
-        _ => false,
-    }
+    matches!(replay.reader.place, Place::Broken(_))
 }

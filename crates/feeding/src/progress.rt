@@ -1,6 +1,5 @@
 // How far a long recording is: a line on standard error where that is a terminal, and nothing otherwise. It begins after 2 s and is written over at most once a second. The
 // clock has whole seconds: 3 of its turns are more than 2 s, and 2 of them more than 1.
-use refusals::Put;
 use std::fs::{File, Metadata};
 use std::io::{IsTerminal, Write};
 use std::os::unix::fs::FileTypeExt;
@@ -10,17 +9,16 @@ use std::{fs, io};
 // The commands of this repository read the program's standard error themselves, and lend their own as the fourth descriptor, which is opened by this name.
 const LENT: &str = "/dev/fd/4";
 
-// The terminal, where there is one.
+// The terminal: standard error itself, or the descriptor that is lent.
 #[derive(Drop)]
 enum Terminal {
-    None,
     Error,
     Lent(File),
 }
 
 #[derive(Drop)]
 pub(crate) struct Progress {
-    terminal: Terminal,
+    terminal: Option<Terminal>,
     // Has a line been written?
     begun: bool,
     // The second in which the last one was written, or in which the reading began.
@@ -37,7 +35,7 @@ pub(crate) fn start(rt: HostRuntime) -> Progress {
 
 // After so many bytes.
 pub(crate) fn reached(rt: HostRuntime, progress: Progress, bytes: u32) -> Progress {
-    if let Terminal::None = progress.terminal {
+    if progress.terminal.is_none() {
         return progress;
     }
     let now = seconds(rt);
@@ -46,7 +44,9 @@ pub(crate) fn reached(rt: HostRuntime, progress: Progress, bytes: u32) -> Progre
         return progress;
     }
     let mut terminal = progress.terminal;
-    write_line(rt, &mut terminal, bytes);
+    if let Some(to) = &mut terminal {
+        write_line(rt, to, bytes);
+    }
     Progress {
         terminal,
         begun: true,
@@ -58,31 +58,30 @@ pub(crate) fn reached(rt: HostRuntime, progress: Progress, bytes: u32) -> Progre
 pub(crate) fn stop(rt: HostRuntime, progress: Progress) {
     if progress.begun {
         let mut terminal = progress.terminal;
-        write_all(rt, &mut terminal, b"\n");
+        if let Some(to) = &mut terminal {
+            write_all(rt, to, b"\n");
+        }
     }
 }
 
 // The turns of the clock before the next line.
 fn wait(begun: bool) -> u64 {
-    if begun {
-        return 2;
-    }
-    3
+    if begun { 2 } else { 3 }
 }
 
 // The terminal that standard error is, or the lent descriptor.
-fn found(rt: HostRuntime) -> Terminal {
+fn found(rt: HostRuntime) -> Option<Terminal> {
     if rt.stderr().is_terminal() {
-        return Terminal::Error;
+        return Some(Terminal::Error);
     }
     match lent(rt) {
         Ok(file) => {
             if file.is_terminal() {
-                return Terminal::Lent(file);
+                return Some(Terminal::Lent(file));
             }
-            Terminal::None
+            None
         }
-        Err(_) => Terminal::None,
+        Err(_) => None,
     }
 }
 
@@ -98,21 +97,20 @@ fn lent(rt: HostRuntime) -> io::Result<File> {
 fn write_line(rt: HostRuntime, terminal: &mut Terminal, bytes: u32) {
     let mut room = [0u8; 10];
     match numbers::write_decimal(bytes as u64, &mut room) {
-        Put::Bytes(n) => {
+        Ok(n) => {
             if n <= room.len() {
                 write_all(rt, terminal, b"\r");
                 write_all(rt, terminal, &room[0..n]);
                 write_all(rt, terminal, b" bytes so far");
             }
         }
-        Put::Refused(_) => {}
+        Err(_) => {}
     }
 }
 
 // Nothing is said of a write that fails.
 fn write_all(rt: HostRuntime, terminal: &mut Terminal, bytes: &[u8]) {
     let _ = match terminal {
-        Terminal::None => Ok(()),
         Terminal::Error => Write::write_all(&mut rt.stderr(), bytes),
         Terminal::Lent(file) => file.write_all(bytes),
     };

@@ -1,7 +1,7 @@
 // Inputs of the programs, read whole into a lent room; the arguments that name them, as bytes; and what is said of one that cannot be read.
 #![tactic(auto)]
 
-ghost use Rattle.std.specs.Prelude.{◌≤◌, length, IfOk};
+ghost use Rattle.std.specs.Prelude.{◌≤◌, ◌<◌, length, IfOk, IfSome};
 
 use std::env::{Env, FillError};
 use std::fs::Files;
@@ -20,6 +20,7 @@ pub fn read_all<R: Read>(input: &mut R, room: &mut [u8]) -> io::Result<usize>
     ensures { IfOk result (λ n. n ≤ length room.new) }
 {
     let mut at: usize = 0;
+    // No `for`: each read says how far it goes.
     while at < room.len() {
         let n = input.read(&mut room[at..])?;
         if n == 0 {
@@ -28,6 +29,29 @@ pub fn read_all<R: Read>(input: &mut R, room: &mut [u8]) -> io::Result<usize>
         at += n;
     }
     Ok(at)
+}
+
+// Reads standard input, and answers how many bytes that were. Where it cannot be read, or fills the room, a line says so, the second one with
+// `over`, and there is no answer.
+pub fn read_sheet<R: Read, W: Write>(
+    input: &mut R,
+    says: &mut W,
+    over: &[u8],
+    room: &mut [u8],
+) -> io::Result<Option<usize>>
+    ensures { IfOk result (λ got. IfSome got (λ n. n < length room.new)) }
+{
+    match read_all(input, room) {
+        Ok(n) if n < room.len() => Ok(Some(n)),
+        Ok(_) => {
+            says.write_all(over)?;
+            Ok(None)
+        }
+        Err(why) => {
+            fail(says, b"standard input", why);
+            Ok(None)
+        }
+    }
 }
 
 // Reads the file that a path names, or answers why it cannot be opened or read.
@@ -45,20 +69,14 @@ pub fn open_read<F: Files>(files: &F, path: &[u8]) -> io::Result<F::File> {
 
 // A path's text.
 pub fn path_text(path: &[u8]) -> io::Result<&str> {
-    match str::from_utf8(path) {
-        Ok(text) => Ok(text),
-        Err(_) => Err(io::Error::from_raw_os_error(NOT_UTF_8)),
-    }
+    str::from_utf8(path).map_err(|_| io::Error::from_raw_os_error(NOT_UTF_8))
 }
 
 // How many arguments the program was started with, its own name among them.
 pub fn arg_count<E: Env>(env: &E) -> usize {
-    for i in 0..usize::MAX {
-        if let Err(FillError::NotPresent) = env.arg(i, &mut []) {
-            return i;
-        }
-    }
-    usize::MAX
+    (0..usize::MAX)
+        .find(|&i| matches!(env.arg(i, &mut []), Err(FillError::NotPresent)))
+        .unwrap_or(usize::MAX)
 }
 
 // Puts an argument at the start of a room, and answers its length, or that it is missing or too long: then the room has its first bytes.
@@ -96,10 +114,7 @@ fn error_text(why: io::Error, room: &mut [u8; 256]) -> usize
 fn end_of(text: &[u8; 256]) -> usize
     ensures { result ≤ 256 }
 {
-    for i in 0..256 {
-        if text[i] == 0 || text[i..].starts_with(b" (os error ") {
-            return i;
-        }
-    }
-    256
+    (0..256)
+        .find(|&i| text[i] == 0 || text[i..].starts_with(b" (os error "))
+        .unwrap_or(256)
 }

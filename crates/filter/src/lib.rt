@@ -1,61 +1,53 @@
 // What the filters at the desk share: records on their input, one at a time, and the line that says which bytes are to be sent.
 #![tactic(auto)]
 
-use recording::{Fault, Outcome, Reader, Record, Verdict};
+use recording::{Fault, Reader, Record};
 use sheet::{print_bytes, print_text};
 use std::io;
 use std::io::{Read, Write};
 
-// More turns than there can be bytes.
-pub const TURNS: u64 = 18_446_744_073_709_551_615;
-
-// What the next bytes are: a record, none since the input has ended, or why they are none; or why they cannot be read.
+// Why the next bytes are no record, or why they cannot be read.
 #[derive(Clone, Copy)]
-pub enum Event {
-    Whole(Record),
-    End,
+pub enum NoRecord {
     Bad(Fault),
     Failed(io::Error),
 }
 
-// The next record. A byte is read at a time: the lines bring no more than some thousand in a second.
-pub fn next<R: Read>(input: &mut R) -> Event {
+impl From<io::Error> for NoRecord {
+    fn from(why: io::Error) -> NoRecord {
+        NoRecord::Failed(why)
+    }
+}
+
+// The next record; None where the input has ended. A byte is read at a time: the lines bring no more than some thousand in a second.
+pub fn next<R: Read>(input: &mut R) -> Result<Option<Record>, NoRecord> {
     let mut reader = Reader::fresh();
-    let mut turns: u64 = TURNS;
-    while 0 < turns {
+    for _ in 0..u64::MAX {
         let mut read = [0u8; 1];
-        let got = match input.read(&mut read) {
-            Ok(got) => got,
-            Err(why) => {
-                return Event::Failed(why);
-            }
-        };
+        let got = input.read(&mut read)?;
         if got < 1 {
             return no_byte(reader);
         }
         let step = reader.byte(0, read[0]);
-        let outcome = step.outcome;
-        match outcome {
-            Outcome::More => {}
-            Outcome::Whole(x) => {
-                return Event::Whole(x);
+        match step.outcome {
+            Ok(None) => {}
+            Ok(Some(x)) => {
+                return Ok(Some(x));
             }
-            Outcome::Bad(why, _) => {
-                return Event::Bad(why);
+            Err(bad) => {
+                return Err(NoRecord::Bad(bad.fault));
             }
         }
-        let following = step.reader;
-        reader = following;
-        turns -= 1;
+        reader = step.reader;
     }
-    Event::End
+    Ok(None)
 }
 
 // No byte came: the input has ended, which is a fault inside a record.
-fn no_byte(reader: Reader) -> Event {
+fn no_byte(reader: Reader) -> Result<Option<Record>, NoRecord> {
     match reader.ended() {
-        Verdict::Good => Event::End,
-        Verdict::Bad(why, _) => Event::Bad(why),
+        Ok(()) => Ok(None),
+        Err(bad) => Err(NoRecord::Bad(bad.fault)),
     }
 }
 

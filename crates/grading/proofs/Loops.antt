@@ -1,4 +1,6 @@
 -- The loop over a piece: what a record of it leaves to be fed. Assumes nothing.
+use Rattle.std.proofs.lemmas.Result.{IfErr-at_err}
+use Rattle.std.specs.Prelude.{Err}
 use Prim.Native.Nat.{ℕ, suc, ◌+◌, ◌-◌, ◌≤◌, ◌<◌}
 use mathlib.Core.Path.{◌≡◌, refl, sym, ap, ap₂, ◌∙◌, subst}
 use mathlib.Core.Bool.{Bool, true, false, cond, true≢false}
@@ -14,8 +16,9 @@ use Rattle.refusals.proofs.Rules.{by_cases}
 use denote.Enum.Declared.{tag_of}
 use package.types.Run.{OneOf, hit, miss}
 use borrow.Author.Tests.{le-ltb, lt-ltb}
-use Rattle.validator_rules.specs.Limits.{types}
-use Rattle.validator_rules.specs.Bills.{booked_by}
+use Rattle.std.specs.Prelude.{Option}
+use Rattle.std.specs.Option.{is_some}
+use Rattle.validator_rules.specs.Bills.{no_bill, a_bill, booked_by}
 use Rattle.validator_rules.specs.declared.bills.Bills.{Bills}
 use Rattle.recording.specs.Record.{most_bytes}
 use Rattle.recording.specs.Reading.{fresh_reader, refused_at, read_byte, ended_in, ended, past_in as past_step, taken_byte, reader_after}
@@ -27,11 +30,11 @@ use Rattle.recording.specs.declared.Place.{Place}
 use Rattle.recording.specs.declared.Place.TheVariants.{Kind, Code, Upper, Lower, FromDispenser, Milliseconds, FromValidator, ToValidator, Broken}
 use Rattle.recording.specs.declared.Reader.{Reader}
 use Rattle.recording.specs.declared.Step.{Step}
-use Rattle.recording.specs.declared.Outcome.{Outcome}
-use Rattle.recording.specs.declared.Outcome.TheVariants.{More, Whole as ByteWhole, Bad as ByteBad}
-use Rattle.recording.specs.declared.Verdict.TheVariants.{Bad as NotGood}
-use Rattle.recording.specs.declared.taking.NextRecord.{NextRecord}
-use Rattle.recording.specs.declared.taking.NextRecord.TheVariants.{Whole, Bad}
+use Rattle.recording.specs.Outcome.{Outcome}
+use Rattle.recording.specs.Outcome.{More, Whole as ByteWhole, Bad as ByteBad}
+use Rattle.recording.specs.Verdict.{Bad as NotGood}
+use Rattle.recording.specs.NextRecord.{NextRecord}
+use Rattle.recording.specs.NextRecord.{Whole, Bad}
 use Rattle.recording.specs.contracts.Fault.{the_type as the-fault}
 use Rattle.recording.specs.contracts.Place.{the_type as the-place}
 use Rattle.recording.proofs.Places.{within, Inside}
@@ -160,7 +163,7 @@ due-byte r at b e = rw e
 after-other : (o : Outcome) (q r z : Reader) (d : Desk) (n : ℕ) → after_byte o q (replay_on d r n) ≡ after_byte o q (replay_on d z n)
 after-other More q r z d n = refl
 after-other (ByteWhole x) q r z d n = refl
-after-other (ByteBad why at) q r z d n = refl
+after-other (Err x) q r z d n = refl
 
 pub begins : (w : Replaying) (piece : List ℕ) → 0 < length piece
     → fed_piece (replay_on w.desk (cond (is_begun w.reader.place) w.reader fresh_reader) (w.fed + 0)) piece ≡ fed_piece w piece
@@ -281,14 +284,14 @@ not-due (Broken why) h = refl
 
 start-in : (p : Place) (r : Reader) {why : Fault} {at : ℕ} → ended_in p r ≡ NotGood why at → at ≡ r.start
 start-in Kind r e = let z : ◌≡◌ {A = ℕ} 0 1 = cc in absurd (omega arith)
-start-in Code r e = cc
-start-in Upper r e = cc
-start-in Lower r e = cc
-start-in FromDispenser r e = cc
-start-in Milliseconds r e = cc
-start-in FromValidator r e = cc
-start-in ToValidator r e = cc
-start-in (Broken why) r e = cc
+start-in Code r e = IfErr-at_err (λ x. x.at ≡ r.start) e refl
+start-in Upper r e = IfErr-at_err (λ x. x.at ≡ r.start) e refl
+start-in Lower r e = IfErr-at_err (λ x. x.at ≡ r.start) e refl
+start-in FromDispenser r e = IfErr-at_err (λ x. x.at ≡ r.start) e refl
+start-in Milliseconds r e = IfErr-at_err (λ x. x.at ≡ r.start) e refl
+start-in FromValidator r e = IfErr-at_err (λ x. x.at ≡ r.start) e refl
+start-in ToValidator r e = IfErr-at_err (λ x. x.at ≡ r.start) e refl
+start-in (Broken why) r e = IfErr-at_err (λ x. x.at ≡ r.start) e refl
 
 pub ended-start : (r : Reader) {why : Fault} {at : ℕ} → ended r ≡ NotGood why at → at ≡ r.start
 unfolding ended
@@ -339,7 +342,7 @@ fed-after s w later More q =
 fed-after s w later (ByteWhole x) q =
     let e : w.fed + 1 + length s ≡ w.fed + suc (length s) = omega arith in
     subst (Fed (fed_piece (after_byte (ByteWhole x) q w) s)) e (later (after_byte (ByteWhole x) q w))
-fed-after s w later (ByteBad why at) q = fed-broken why at s (w.fed + suc (length s))
+fed-after s w later (Err x) q = fed-broken x.fault x.at s (w.fed + suc (length s))
 
 fed-count : (s : List ℕ) (w : Replaying) → Fed (fed_piece w s) (w.fed + length s)
 unfolding fed_byte
@@ -402,6 +405,7 @@ shelved b b' ks ks' c n e w p q r =
     ap (shelf b') (r ∙ ap (slots_after ks) q) ∙ ap (λ (x : Books). shelf x (slots_after ks (written_of x.place c n e))) p
 
 -- a record that credits no bill leaves the bills as they were
-pub no-bill : (bs : List Bills) (y : ℕ) → types ≤ y → bs ≡ booked_by bs y
+pub no-bill : (bs : List Bills) (y : Option ℕ) → is_some y ≡ false → bs ≡ booked_by bs y
 unfolding booked_by
-no-bill bs y h = rw (le-ltb y types h)
+no-bill bs no_bill h = refl
+no-bill bs (a_bill y) h = absurd (true≢false h)

@@ -9,9 +9,9 @@ ghost use Rattle.grading_step.specs.Scaffolding.{shelf, joined};
 ghost use Rattle.grading.specs.Scaffolding.{replay_on, is_begun, Unbroken, past_limit, Least};
 
 use dispenser_rules::{Account, KeptRequest, LastErrors, Place, Requests};
-use grading_rules::{Desk, Ending, Findings, Replaying};
+use grading_rules::{Desk, Findings, Replaying};
 use grading_step::{Books, Run, booked, step, written};
-use recording::{Fault, NextRecord, Reader, Verdict, glances_in, reader_at, record_in};
+use recording::{Bad, Fault, Reader, glances_in, reader_at, record_in};
 use validator_rules::Bills;
 
 // A bad recording leaves its fault, and nothing else.
@@ -25,7 +25,7 @@ fn bad(why: Fault, at: u32) -> Findings
         table: [0; 120],
         declined: 0,
         records: 0,
-        ending: Ending::Bad(why, at),
+        ending: Err(Bad { fault: why, at }),
     }
 }
 
@@ -103,10 +103,7 @@ fn rejoined(
 fn start_of(cut: bool, begun: Reader, at: u64) -> u64
     ensures { result ≡ cond cut begun.start at }
 {
-    if cut {
-        return begun.start;
-    }
-    at
+    if cut { begun.start } else { at }
 }
 
 // The reader after the bytes of a piece from an index on, of which the first has that offset in the recording.
@@ -116,13 +113,9 @@ fn reader_after(begun: Reader, at: u64, piece: &[u8], from: usize) -> Reader
 {
     let mut reader = begun;
     let mut p = at;
-    let mut i: usize = from;
-    while i < piece.len() {
-        let step = reader.taken(p, piece[i]);
-        let next = step.reader;
-        reader = next;
+    for i in from..piece.len() {
+        reader = reader.taken(p, piece[i]).reader;
         p += 1;
-        i += 1;
     }
     reader
 }
@@ -131,8 +124,7 @@ fn reader_after(begun: Reader, at: u64, piece: &[u8], from: usize) -> Reader
 fn is_begun(reader: Reader) -> bool
     ensures { result ≡ is_begun reader.place }
 {
-    let place = reader.place;
-    match place {
+    match reader.place {
         recording::Place::Kind => false,
         _ => true,
     }
@@ -182,10 +174,11 @@ fn through(replay: Replaying, piece: &[u8]) -> Replaying
     let mut glances = glances_in(cut, piece);
     let all = glances_in(false, piece);
     let mut i: usize = 0;
+    // It counts no index: a record moves it on by as many bytes as the record has, which a `for` over the piece can't say.
     while i < piece.len() {
         let found = record_in(glances, cut, begun, piece, i);
         match found {
-            NextRecord::Bad(why) => {
+            Err(why) => {
                 let at = fed + i as u64;
                 match why {
                     Fault::Cut => {
@@ -200,7 +193,7 @@ fn through(replay: Replaying, piece: &[u8]) -> Replaying
                     }
                 }
             }
-            NextRecord::Whole(x, size) => {
+            Ok((x, size)) => {
                 let moved = step(run, x, &mut store, &mut store255, &mut table);
                 let following = moved.run;
                 run = following;
@@ -217,7 +210,7 @@ fn through(replay: Replaying, piece: &[u8]) -> Replaying
                     slots[slot] = request;
                 }
                 let bill = moved.bill;
-                if bill < validator_rules::Session::TYPES {
+                if bill.is_some() {
                     let counts = validator::booked(bills, bill);
                     bills = counts;
                 }
@@ -238,10 +231,7 @@ fn through(replay: Replaying, piece: &[u8]) -> Replaying
 fn least(a: usize, b: usize) -> usize
     ensures { Least a b result }
 {
-    if a < b {
-        return a;
-    }
-    b
+    a.min(b)
 }
 
 // A byte past the limit.
@@ -280,7 +270,7 @@ pub fn feed(replay: Replaying, piece: &[u8]) -> Replaying
     requires { Counted replay }
     ensures { result ≡ fed_piece replay piece.now }
 {
-    if piece.len() == 0 {
+    if piece.is_empty() {
         return replay;
     }
     let reader = replay.reader;
@@ -298,7 +288,7 @@ pub fn ended(replay: Replaying) -> Findings
 {
     let reader = replay.reader;
     match reader.ended() {
-        Verdict::Good => {
+        Ok(()) => {
             let desk = replay.desk;
             let dispenser = desk.dispenser;
             let validator = desk.validator;
@@ -313,10 +303,10 @@ pub fn ended(replay: Replaying) -> Findings
                 table,
                 declined: desk.declined,
                 records: desk.records,
-                ending: Ending::Good,
+                ending: Ok(()),
             }
         }
-        Verdict::Bad(why, at) => bad(why, at as u32),
+        Err(Bad { fault, at }) => bad(fault, at as u32),
     }
 }
 

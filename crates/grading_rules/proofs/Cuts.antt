@@ -1,5 +1,6 @@
 -- How a recording is cut does not tell: a piece is fed byte by byte, and so are pieces one after the other. After a fault nothing changes, and no count wraps.
 -- Assumes nothing.
+use Rattle.std.specs.Prelude.{Err}
 use Prim.Native.Nat.{ℕ, ◌+◌, ◌≤◌, ◌<◌}
 use mathlib.Core.Path.{◌≡◌, refl, sym, ap, ◌∙◌, subst}
 use mathlib.Core.Bool.{Bool, true, false, cond, ◌||◌}
@@ -21,10 +22,10 @@ use Rattle.recording.specs.declared.Record.TheVariants.{Request, DispenserByte, 
 use Rattle.recording.specs.declared.Place.TheVariants.{Broken}
 use Rattle.recording.specs.declared.Reader.{Reader}
 use Rattle.recording.specs.declared.Step.{Step}
-use Rattle.recording.specs.declared.Outcome.{Outcome}
-use Rattle.recording.specs.declared.Outcome.TheVariants.{More, Whole, Bad}
-use Rattle.recording.specs.declared.Verdict.{Verdict}
-use Rattle.recording.specs.declared.Verdict.TheVariants.{Good, Bad as NotGood}
+use Rattle.recording.specs.Outcome.{Outcome}
+use Rattle.recording.specs.Outcome.{More, Whole, Bad}
+use Rattle.recording.specs.Verdict.{Verdict}
+use Rattle.recording.specs.Verdict.{Good, Bad as NotGood}
 use Rattle.recording.proofs.Places.{within, Inside, begun-ended}
 use Rattle.recording.proofs.Faults.{broken-byte, taken-low}
 use Rattle.recording.proofs.Folds.{taking-nil, taking-cons}
@@ -84,7 +85,7 @@ replayed-also d x (bad why at) = refl
 ends_as : (v : Verdict) (d : Desk) → ended_as v d ≡ replayed d (closing v)
 unfolding run
 ends_as Good d = refl
-ends_as (NotGood why at) d = refl
+ends_as (Err x) d = refl
 
 module _ (d : Desk) (r : Reader) (n : ℕ) (s : List ℕ) where
   -- what a byte brought, and what is said of the rest
@@ -93,7 +94,7 @@ module _ (d : Desk) (r : Reader) (n : ℕ) (s : List ℕ) where
       → ended_replay (fed_piece (after_byte o q (record { desk = d; reader = r; fed = n })) s) ≡ replayed d (went o (taking_from q (n + 1) s))
   one-read More q later = later d
   one-read (Whole x) q later = later (given d x) ∙ sym (replayed-also d x (taking_from q (n + 1) s))
-  one-read (Bad why at) q later = ap ended_replay (broken-stays s why at) ∙ broken-end why at
+  one-read (Err x) q later = ap ended_replay (broken-stays s x.fault x.at) ∙ broken-end x.fault x.at
 
 read-from : (s : List ℕ) (d : Desk) (r : Reader) (n : ℕ) → ended_replay (fed_piece (record { desk = d; reader = r; fed = n }) s) ≡ replayed d (taking_from r n s)
 unfolding ended_replay
@@ -228,7 +229,7 @@ counted-after (Whole x) q w h l f c =
       records_most = omega (arith, n.0, c.records_most);
       fed_most = omega (arith, h);
     }
-counted-after (Bad why at) q w h l f c = counted-broken why at (f why at refl)
+counted-after (Err x) q w h l f c = counted-broken x.fault x.at (f x.fault x.at refl)
 
 counted-byte : (w : Replaying) (b : ℕ) → Counted w → Counted (fed_byte w b)
 unfolding fed_byte

@@ -20,7 +20,7 @@ use Rattle.dispenser_rules.proofs.ErrorsTold.{errors-by-history}
 use Rattle.dispenser_rules.proofs.Kept.{kept-by-history as requests-by-history}
 use Rattle.dispenser_rules.specs.Requests.{oldest_first}
 use Rattle.dispenser_rules.specs.declared.session.Session.{Session}
-use Rattle.dispenser_rules.specs.declared.session.Step.{Step}
+use Rattle.dispenser_rules.specs.Step.{Step}
 use Rattle.validator_rules.specs.Session.{fresh_session as fresh_taker}
 use Rattle.validator_rules.specs.Calls.{host as taker_host}
 use Rattle.validator_rules.specs.declared.session.Session.{Session as Taker}

@@ -5,6 +5,7 @@ use mathlib.Core.List.{List, [], ◌∷◌, ◌++◌}
 use native.Mathlib.Numerals.{add-one}
 use native.Mathlib.Omega.{arith}
 use lib.ListN.{length, drop, length-append}
+use Rattle.std.proofs.lemmas.Result.{IfOk-at_ok}
 use Rattle.recording.specs.Record.{most_bytes, fault_number}
 use Rattle.recording.specs.Reading.{fresh_reader, more, whole, refused_at, read_byte, taken_byte, reader_after}
 use Rattle.recording.specs.Promises.{AtOnce, bad-number, unknown}
@@ -13,8 +14,8 @@ use Rattle.recording.specs.declared.Fault.TheVariants.{Cut}
 use Rattle.recording.specs.declared.Record.{Record}
 use Rattle.recording.specs.declared.Reader.{Reader}
 use Rattle.recording.specs.declared.Step.{Step}
-use Rattle.recording.specs.declared.taking.NextRecord.{NextRecord}
-use Rattle.recording.specs.declared.taking.NextRecord.TheVariants.{Whole, Bad}
+use Rattle.recording.specs.NextRecord.{NextRecord}
+use Rattle.recording.specs.NextRecord.{Whole, Bad}
 use Rattle.recording.proofs.Folds.{taken-before}
 use Rattle.recording.proofs.Pieces.{Begun, no_more, one_more, Comes, comes, fails, stops}
 use Rattle.grading_rules.specs.Replay.{given}
@@ -73,8 +74,8 @@ module _ (d : Desk) (o : ℕ) (r : Reader) (p : ℕ) (s : List ℕ) (l : p + len
 
   pub whole-given : {f : NextRecord} (x : Record) (n : ℕ) → Comes o r p 0 s f → f ≡ Whole x n → Given d r p s x n
   whole-given x n (comes y u t b q e g h) z =
-      let same : y ≡ x = cc in
-      let size : 0 + suc (length u) ≡ n = cc in
+      let same : y ≡ x = IfOk-at_ok (λ p. y ≡ p.0) z refl in
+      let size : 0 + suc (length u) ≡ n = IfOk-at_ok (λ p. 0 + suc (length u) ≡ p.1) z refl in
       let m = simp length-append at (ap length e) in
       let k = through u t b q (whole y) e g h in
       let place : p + length u + 1 ≡ p + n = omega (arith, size) in

@@ -1,13 +1,13 @@
 -- A replay that goes on (02, Q-7): a recording "fed in pieces of any size including empty ones", until the caller says that it has ended.
-use Rattle.std.specs.Prelude.{ℕ, ◌+◌, List, [], ◌∷◌}
+use Rattle.std.specs.Prelude.{ℕ, ◌+◌, List, [], ◌∷◌, Err}
 use Rattle.recording.specs.Reading.{awaiting, fresh_reader, taken_byte, ended}
 use Rattle.recording.specs.declared.Fault.{Fault}
-use Rattle.recording.specs.declared.Outcome.{Outcome}
-use Rattle.recording.specs.declared.Outcome.TheVariants.{More, Whole, Bad}
+use Rattle.recording.specs.Outcome.{Outcome}
+use Rattle.recording.specs.Outcome.{More, Whole, Bad}
 use Rattle.recording.specs.declared.Place.TheVariants.{Broken}
 use Rattle.recording.specs.declared.Reader.{Reader}
-use Rattle.recording.specs.declared.Verdict.{Verdict}
-use Rattle.recording.specs.declared.Verdict.TheVariants.{Good, Bad as NotGood}
+use Rattle.recording.specs.Verdict.{Verdict}
+use Rattle.recording.specs.Verdict.{Good, Bad as NotGood}
 use Rattle.grading_rules.specs.Replay.{fresh_desk, given, told, bad_findings}
 use Rattle.grading_rules.specs.declared.desk.Desk.{Desk}
 use Rattle.grading_rules.specs.declared.desk.Replaying.{Replaying}
@@ -25,7 +25,7 @@ broken_at why at = record { desk = fresh_desk; reader = awaiting at (Broken why)
 abbrev pub after_byte : Outcome → Reader → Replaying → Replaying
 after_byte More r w = record { desk = w.desk; reader = r; fed = w.fed + 1 }
 after_byte (Whole x) r w = record { desk = given w.desk x; reader = r; fed = w.fed + 1 }
-after_byte (Bad why at) r w = broken_at why at
+after_byte (Err x) r w = broken_at x.fault x.at
 
 -- a byte: its offset is the number of bytes fed before it
 unfoldable pub fed_byte : Replaying → ℕ → Replaying
@@ -44,7 +44,7 @@ fed_pieces w (s ∷ ps) = fed_pieces (fed_piece w s) ps
 -- "Number 22 is given only when the caller says that the recording has ended."
 abbrev pub ended_as : Verdict → Desk → Findings
 ended_as Good d = told d
-ended_as (NotGood why at) d = bad_findings why at
+ended_as (Err x) d = bad_findings x.fault x.at
 
 unfoldable pub ended_replay : Replaying → Findings
 ended_replay w = ended_as (ended w.reader) w.desk

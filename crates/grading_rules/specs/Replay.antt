@@ -1,26 +1,26 @@
 -- Replay (01, "Recording and report"): the sessions' own steps, folded over the records of a recording.
 -- The desk pays out by the dispenser session, the payer, and takes in by the validator session, the taker.
-use Rattle.std.specs.Prelude.{ℕ, ◌+◌, Bool, true, false, cond, ◌||◌, List, [], ◌∷◌, replicate}
+use Rattle.std.specs.Prelude.{ℕ, ◌+◌, Bool, true, false, cond, ◌||◌, List, [], ◌∷◌, replicate, Ok}
 use Rattle.dispenser_rules.specs.Requests.{fresh_account}
 use Rattle.dispenser_rules.specs.Errors.{no_errors, erred_by}
 use Rattle.dispenser_rules.specs.declared.errors.LastErrors.{LastErrors}
 use Rattle.dispenser_rules.specs.Session.{After, fresh_session, session_request, session_byte, session_tick, session_clear}
-use Rattle.dispenser_rules.specs.declared.session.Reply.{Reply}
-use Rattle.dispenser_rules.specs.declared.session.Reply.TheVariants.{NotDone, Done}
+use Rattle.dispenser_rules.specs.Reply.{Reply}
+use Rattle.dispenser_rules.specs.Reply.{NotDone, Done}
 use Rattle.dispenser_rules.specs.declared.session.Session.{Session}
 use Rattle.exchange_rules.specs.Limits.{least_room}
 use Rattle.validator_rules.specs.Limits.{least_room as taker_room}
 use Rattle.validator_rules.specs.Bills.{no_bills}
 use Rattle.validator_rules.specs.Session.{no_table, After as TakerAfter, fresh_session as fresh_taker, session_request as taker_request, session_byte as taker_byte, session_tick as taker_tick}
-use Rattle.validator_rules.specs.declared.session.Reply.{Reply as TakerReply}
-use Rattle.validator_rules.specs.declared.session.Reply.TheVariants.{NotDone as TakerNotDone, Done as TakerDone}
+use Rattle.validator_rules.specs.Reply.{Reply as TakerReply}
+use Rattle.validator_rules.specs.Reply.{NotDone as TakerNotDone, Done as TakerDone}
 use Rattle.validator_rules.specs.declared.session.Session.{Session as Taker}
 use Rattle.recording.specs.Reading.{Reading, records, bad}
 use Rattle.recording.specs.declared.Fault.{Fault}
 use Rattle.recording.specs.declared.Record.{Record}
 use Rattle.recording.specs.declared.Record.TheVariants.{Request, DispenserByte, Tick, ValidatorByte, Command, Clear}
 use Rattle.grading_rules.specs.declared.desk.Desk.{Desk}
-use Rattle.grading_rules.specs.declared.findings.Ending.TheVariants.{Good, Bad}
+use Rattle.recording.specs.Verdict.{Good, Bad}
 use Rattle.grading_rules.specs.declared.findings.Findings.{Findings}
 
 -- both fresh
@@ -37,11 +37,11 @@ lent_room255 = replicate taker_room 0
 -- a session refused
 abbrev pub payer_declines : Reply → Bool
 payer_declines (NotDone why) = true
-payer_declines (Done n c) = false
+payer_declines (Ok effect) = false
 
 abbrev pub taker_declines : TakerReply → Bool
 taker_declines (TakerNotDone why) = true
-taker_declines (TakerDone n c) = false
+taker_declines (Ok effect) = false
 
 -- one record more: "Each record refused by a session counts once as declined."
 abbrev pub counting : Bool → Desk → Session → Taker → LastErrors → Desk

@@ -5,4 +5,4 @@ mod desk;
 mod findings;
 
 pub use desk::{Desk, Replaying};
-pub use findings::{Ending, Findings};
+pub use findings::Findings;

@@ -1,4 +1,5 @@
 -- A byte or a tick that closes nothing puts a frame only where the command is handed over once more. Assumes nothing.
+use Rattle.std.specs.Prelude.{Ok}
 use Prim.Native.Nat.{ℕ, ◌+◌}
 use mathlib.Core.Path.{◌≡◌, refl, sym, subst, ◌∙◌}
 use mathlib.Core.Bool.{false, not}
@@ -10,8 +11,8 @@ use borrow.Author.Tests.{eqb-true, not-false}
 use Rattle.refusals.specs.Rules.{under, same}
 use Rattle.refusals.proofs.Rules.{pick, either_way}
 use Rattle.dispenser_frame_rules.specs.Answer.{answer_code, read_answer}
-use Rattle.dispenser_frame_rules.specs.declared.answer.AnswerRead.{AnswerRead}
-use Rattle.dispenser_frame_rules.specs.declared.answer.AnswerRead.TheVariants.{Read, Refused as NotRead}
+use Rattle.dispenser_frame_rules.specs.AnswerRead.{AnswerRead}
+use Rattle.dispenser_frame_rules.specs.AnswerRead.{Read, Refused as NotRead}
 use Rattle.exchange_rules.specs.Exchange.{first_byte, bad_frame, start_byte, inside_byte, heard_in, heard, expired_in, expired, passed}
 use Rattle.exchange_rules.specs.declared.line.Phase.{Phase}
 use Rattle.exchange_rules.specs.declared.line.Phase.TheVariants.{Idle, First, Start, Inside}
@@ -115,7 +116,7 @@ module _ (a : Asked) (r : List ℕ) where
   bad-short l = stays-short (bad_frame l).todo (bad_frame l).line (bad-stays l)
 
   judged-short : (x : AnswerRead) (l : Line) → ShortStep (judged_step x l a r)
-  judged-short (Read answer class) l = pick ShortStep (same (answer_code answer) a.code) _ _ (λ h. tt) (λ m. bad-short l)
+  judged-short (Ok read) l = pick ShortStep (same (answer_code read.answer) a.code) _ _ (λ h. tt) (λ m. bad-short l)
   judged-short (NotRead fault) l = bad-short l
 
   byte-short : (n : ℕ) (h : Heard) (l : Line) (store : List ℕ) (at b : ℕ) → NextIn n h l → ShortFrom n (byte_acted h l a store at b r).step

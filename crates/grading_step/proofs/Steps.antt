@@ -4,7 +4,7 @@ use mathlib.Core.Path.{◌≡◌, refl, ap, ap₂}
 use Rattle.dispenser_rules.specs.Session.{After, StepAfter as Done, ByteAfter, account_heard}
 use Rattle.dispenser_rules.specs.Requests.{slots_after}
 use Rattle.dispenser_rules.specs.declared.session.Asked.{Asked}
-use Rattle.dispenser_rules.specs.declared.session.Reply.{Reply}
+use Rattle.dispenser_rules.specs.Reply.{Reply}
 use Rattle.dispenser_rules.specs.declared.session.Session.{Session}
 use Rattle.validator_rules.specs.Session.{LentAfter, HeardAfter, StepAfter, after_step, after_byte}
 use Rattle.grading_rules.specs.Replay.{by_dispenser, by_validator, by_both}

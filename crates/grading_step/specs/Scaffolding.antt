@@ -1,6 +1,6 @@
 -- Scaffolding, which nobody has to believe: contracts of inner functions cite it, some of them public only because the crates were cut, and no promise does.
 -- The parts of the two sessions, which the replay keeps apart; the payer is the dispenser session, the taker the validator session.
-use Rattle.std.specs.Prelude.{ℕ, ◌≤◌, List}
+use Rattle.std.specs.Prelude.{ℕ, ◌≤◌, List, Ok}
 use Rattle.dispenser_rules.specs.Session.{booked_by, request_booked, place_after, written_by}
 use Rattle.dispenser_rules.specs.Requests.{unwritten, slots_after}
 use Rattle.dispenser_rules.specs.declared.requests.KeptRequest.{KeptRequest}
@@ -11,8 +11,8 @@ use Rattle.exchange_rules.specs.declared.line.Line.{Line}
 use Rattle.dispenser_rules.specs.declared.session.Asked.{Asked}
 use Rattle.dispenser_rules.specs.declared.session.Closing.{Closing}
 use Rattle.dispenser_rules.specs.declared.session.Closing.TheVariants.{Nothing as Unclosed, Answered, Refused, Unknown}
-use Rattle.dispenser_rules.specs.declared.session.Reply.{Reply}
-use Rattle.dispenser_rules.specs.declared.session.Reply.TheVariants.{NotDone, Done}
+use Rattle.dispenser_rules.specs.Reply.{Reply}
+use Rattle.dispenser_rules.specs.Reply.{NotDone, Done}
 use Rattle.validator_rules.specs.declared.bills.Bills.{Bills}
 use Rattle.validator_rules.specs.declared.line.Line.{Line as TakerLine}
 use Rattle.grading_rules.specs.declared.desk.Desk.{Desk}
@@ -46,7 +46,7 @@ ShortBy n Unknown = Unit {0}
 
 abbrev pub Short : Reply → Type 0
 Short (NotDone why) = Unit {0}
-Short (Done n c) = ShortBy n c
+Short (Ok effect) = ShortBy effect.put effect.closing
 
 -- the books, and the slots of the kept requests, which stand apart
 pub record Shelf : Type 0 where

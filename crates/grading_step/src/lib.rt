@@ -13,6 +13,7 @@ ghost use Rattle.dispenser_rules.specs.declared.session.Asked.{Asked};
 
 use dispenser_rules::{Asked, Cassettes, LastErrors, Place, Written};
 use recording::Record;
+use refusals::Done;
 
 // What changes with each record, but for the stores and what is booked: the payer's line (the dispenser's) and its command, the taker's line (the validator's), and
 // the counts.
@@ -90,38 +91,29 @@ pub enum Entry {
 pub struct Moved {
     pub run: Run,
     pub entry: Entry,
-    // The type of the bill that it credits; none, that is 24, where it credits none.
-    pub bill: usize,
+    // The type of the bill that it credits, if it credits one.
+    pub bill: Option<usize>,
 }
 
 // Did the dispenser session refuse?
 fn payer_declines(reply: dispenser_rules::Reply) -> bool
     ensures { result ≡ payer_declines reply }
 {
-    match reply {
-        dispenser_rules::Reply::NotDone(_) => true,
-        dispenser_rules::Reply::Done { put: _, closing: _ } => false,
-    }
+    reply.is_err()
 }
 
 // Did the validator session refuse?
 fn taker_declines(reply: validator_rules::Reply) -> bool
     ensures { result ≡ taker_declines reply }
 {
-    match reply {
-        validator_rules::Reply::NotDone(_) => true,
-        validator_rules::Reply::Done { put: _, closing: _ } => false,
-    }
+    reply.is_err()
 }
 
 // Is one of the two so?
 fn either(a: bool, b: bool) -> bool
     ensures { result ≡ (a || b) }
 {
-    if a {
-        return true;
-    }
-    b
+    a || b
 }
 
 // One declined record more, if it was.
@@ -143,34 +135,32 @@ fn heard(reply: dispenser_rules::Reply, again: bool) -> Entry
     ensures { (a : Shelf) (c : Asked) (n : ℕ) → entered a c n result ≡ entered a c n (Heard reply) }
 {
     match reply {
-        dispenser_rules::Reply::NotDone(_) => Entry::Nothing,
-        dispenser_rules::Reply::Done { put, closing } => match closing {
+        Err(_) => Entry::Nothing,
+        Ok(Done { put, closing }) => match closing {
             dispenser_rules::Closing::Nothing => {
                 if again {
                     if 1 < put {
-                        return Entry::Heard(dispenser_rules::Reply::Done {
+                        return Entry::Heard(Ok(Done {
                             put: 2,
                             closing: dispenser_rules::Closing::Nothing,
-                        });
+                        }));
                     }
                     return Entry::Nothing;
                 }
                 Entry::Nothing
             }
-            dispenser_rules::Closing::Answered(answer, class) => Entry::Heard(
-                dispenser_rules::Reply::Done {
-                    put: 2,
-                    closing: dispenser_rules::Closing::Answered(answer, class),
-                },
-            ),
-            dispenser_rules::Closing::Refused => Entry::Heard(dispenser_rules::Reply::Done {
+            dispenser_rules::Closing::Answered(answer, class) => Entry::Heard(Ok(Done {
+                put: 2,
+                closing: dispenser_rules::Closing::Answered(answer, class),
+            })),
+            dispenser_rules::Closing::Refused => Entry::Heard(Ok(Done {
                 put: 2,
                 closing: dispenser_rules::Closing::Refused,
-            }),
-            dispenser_rules::Closing::Unknown => Entry::Heard(dispenser_rules::Reply::Done {
+            })),
+            dispenser_rules::Closing::Unknown => Entry::Heard(Ok(Done {
                 put: 2,
                 closing: dispenser_rules::Closing::Unknown,
-            }),
+            })),
         },
     }
 }
@@ -194,7 +184,7 @@ fn requested(run: Run, code: u8, upper: u32, lower: u32) -> Moved
     Moved {
         run: assembled(next, new, taker, declined, records),
         entry: Entry::Asked(reply),
-        bill: validator_rules::Session::TYPES,
+        bill: None,
     }
 }
 
@@ -218,7 +208,7 @@ fn dispenser_byte(run: Run, store: &mut [u8; 21], b: u8) -> Moved
     Moved {
         run: assembled(next, asked, taker, declined, records),
         entry,
-        bill: validator_rules::Session::TYPES,
+        bill: None,
     }
 }
 
@@ -292,7 +282,7 @@ fn commanded(run: Run, code: u8) -> Moved
     Moved {
         run: assembled(payer, asked, next, declined, records),
         entry: Entry::Nothing,
-        bill: validator_rules::Session::TYPES,
+        bill: None,
     }
 }
 
@@ -313,7 +303,7 @@ fn cleared(run: Run) -> Moved
     Moved {
         run: assembled(next, asked, taker, declined, records),
         entry: Entry::Nothing,
-        bill: validator_rules::Session::TYPES,
+        bill: None,
     }
 }
 

@@ -3,7 +3,7 @@ ghost use Rattle.grading_rules.specs.Promises.{Counted};
 
 use crate::lines;
 use grading_rules::{Desk, Replaying};
-use recording::{Fault, Reader, Verdict};
+use recording::{Fault, Reader};
 use serving::failed;
 use std::fs::File;
 use std::io;
@@ -127,11 +127,11 @@ fn made_ready(
     size: u32,
 ) -> bool {
     match reader.ended() {
-        Verdict::Good => cut_back(rt, path, file, whole, size),
-        Verdict::Bad(why, at) => match why {
+        Ok(()) => cut_back(rt, path, file, whole, size),
+        Err(found) => match found.fault {
             Fault::Cut => cut_back(rt, path, file, whole, size),
-            _ => {
-                bad(rt, path, why, at);
+            why => {
+                bad(rt, path, why, found.at);
                 false
             }
         },

@@ -1,5 +1,6 @@
 -- What entering a record leaves, by what was found: the recording full, the record refused by the writer, or its bytes laid. Assumes nothing.
 use Prim.Native.Nat.{ℕ, ◌<◌}
+use Rattle.std.specs.Prelude.{Err}
 use mathlib.Core.Path.{◌≡◌, refl, sym, ap, ◌∙◌}
 use mathlib.Core.Bool.{true, false}
 use mathlib.Core.List.{List, [], ◌∷◌}
@@ -10,21 +11,21 @@ use denote.Enum.Declared.{tag_of}
 use package.types.Run.{OneOf, hit, miss}
 use Rattle.refusals.specs.Rules.{under}
 use Rattle.refusals.specs.Put.{Written, written}
-use Rattle.refusals.specs.declared.Put.{Put}
+use Rattle.refusals.specs.Put.{Put}
 use Rattle.refusals.proofs.Rules.{holds-true, by_cases, certain, cond-true, cond-false}
 use Rattle.recording.specs.Record.{most_bytes, record_bytes}
 use Rattle.recording.specs.declared.Record.{Record}
 use Rattle.recording.specs.declared.Place.{Place}
 use Rattle.recording.specs.declared.Place.TheVariants.{Kind, Code, Upper, Lower, FromDispenser, Milliseconds, FromValidator, ToValidator, Broken}
 use Rattle.recording.specs.contracts.Place.{the_type as the-place}
-use Rattle.live_rules.specs.contracts.entry.Entry.{the_type as the-entry}
 use Rattle.record_writer.specs.Writing.{write_record}
 use Rattle.grading_rules.specs.declared.desk.Desk.{Desk}
 use Rattle.live_rules.specs.Live.{Living, lived, lived_by}
 use Rattle.live_rules.specs.Entering.{is_full, Noted, noted, as_entry, noted_by, idle, lived_as, entered, entered_as, entered_by, whole_in}
 use Rattle.live_rules.specs.declared.desk.Lived.{Lived}
-use Rattle.live_rules.specs.declared.entry.Entry.{Entry}
-use Rattle.live_rules.specs.declared.entry.Entry.TheVariants.{Bytes, Refused, Full}
+use Rattle.live_rules.specs.Entry.{Entry, Bytes, Full}
+use Rattle.live_rules.specs.declared.entry.NotEntered.{NotEntered}
+use Rattle.live_rules.specs.declared.entry.NotEntered.TheVariants.{Refused as NotTaken, Full as NoRoom}
 
 -- ---- the bytes
 
@@ -55,12 +56,6 @@ module _ (m a d : ℕ) (x : Record) (o : List ℕ) where
       let z : ◌≡◌ {A = ℕ} 0 1 = cc in absurd (omega arith))
       (λ l. (certain (under d most_bytes) (λ u. l (inr (inr (omega arith)))), certain (under a most_bytes) (λ u. l (inr (inl (omega arith))))))
 
--- an entry without bytes
-pub no-bytes : (z : Entry) → ((n : ℕ) → z ≡ Bytes n → ⊥) → OneOf (1 ∷ 2 ∷ []) (tag_of the-entry z)
-no-bytes (Bytes n) i = absurd (i n refl)
-no-bytes (Refused why) i = hit (1 ∷ 2 ∷ []) 1 tt
-no-bytes Full i = hit (1 ∷ 2 ∷ []) 2 tt
-
 -- ---- and the desk
 
 module _ (d : Desk) (m : ℕ) (x : Record) (o r q : List ℕ) (y : Entry) (o' : List ℕ) (h : noted y o' ≡ noted_by m d.records d.declined x o) where
@@ -72,13 +67,12 @@ module _ (d : Desk) (m : ℕ) (x : Record) (o r q : List ℕ) (y : Entry) (o' : 
       → entered (record { entry = y; lived = v }) o' r' q' ≡ entered_by d m x o r q
   was-entered v n r' q' e k = leaves v r' q' (k ∙ sym (ap (λ (z : Entry). lived_as z d x r q) e))
 
-  stays : (z : Entry) → OneOf (1 ∷ 2 ∷ []) (tag_of the-entry z) → idle d r q ≡ lived_as z d x r q
-  stays (Bytes n) i = absurd (miss (1 ∷ 2 ∷ []) 0 tt i)
-  stays (Refused why) i = refl
-  stays Full i = refl
+  stays : (why : NotEntered) → idle d r q ≡ lived_as (Err why) d x r q
+  stays (NotTaken why) = refl
+  stays NoRoom = refl
 
-  pub was-kept : OneOf (1 ∷ 2 ∷ []) (tag_of the-entry y) → (v : Lived) → lived v r q ≡ idle d r q → entered (record { entry = y; lived = v }) o' r q ≡ entered_by d m x o r q
-  was-kept i v k = leaves v r q (k ∙ stays y i)
+  pub was-kept : (why : NotEntered) → y ≡ Err why → (v : Lived) → lived v r q ≡ idle d r q → entered (record { entry = y; lived = v }) o' r q ≡ entered_by d m x o r q
+  was-kept why e v k = leaves v r q (k ∙ stays why ∙ sym (ap (λ (z : Entry). lived_as z d x r q) e))
 
 -- ---- a recording that is taken up again
 

@@ -1,4 +1,5 @@
 -- What a session does never depends on what stood in the room that it was lent, but for the room itself: its length tells. Assumes nothing.
+use Rattle.std.specs.Prelude.{Ok}
 use Prim.Native.Nat.{ℕ, ◌+◌}
 use mathlib.Core.Path.{◌≡◌, refl, ap, ◌∙◌}
 use mathlib.Core.Bool.{Bool, true, false, cond}
@@ -9,8 +10,8 @@ use Rattle.refusals.specs.Rules.{Rule, judged}
 use Rattle.refusals.specs.Put.{Written, refused, laid}
 use Rattle.dispenser_frame_rules.specs.Command.{command_refusals, command_frame, write_command}
 use Rattle.dispenser_frame_rules.specs.Answer.{answer_code, read_answer}
-use Rattle.dispenser_frame_rules.specs.declared.answer.AnswerRead.{AnswerRead}
-use Rattle.dispenser_frame_rules.specs.declared.answer.AnswerRead.TheVariants.{Read, Refused as NotRead}
+use Rattle.dispenser_frame_rules.specs.AnswerRead.{AnswerRead}
+use Rattle.dispenser_frame_rules.specs.AnswerRead.{Read, Refused as NotRead}
 use Rattle.exchange_rules.specs.Exchange.{opened as taken, heard, bad_frame, passed}
 use Rattle.exchange_rules.specs.declared.line.Heard.{Heard}
 use Rattle.exchange_rules.specs.declared.line.Heard.TheVariants.{Keep, Judge, Do}
@@ -20,11 +21,11 @@ use Rattle.exchange_rules.specs.declared.line.Todo.TheVariants.{Nothing as Rest,
 use Rattle.dispenser_rules.specs.Session.{After, StepAfter, ByteAfter, OpeningAfter, refused_step, refused_opening, step_after, byte_after, opening_after, bytes_put, hand_over, acted, bad_step, judged_step, judge_step, byte_acted, byte_refusals, byte_step, tick_refusals, tick_step, request_refusals, command, request_step, account_asked, account_heard, session_request, session_byte, session_tick}
 use Rattle.dispenser_rules.specs.declared.session.Asked.{Asked}
 use Rattle.dispenser_rules.specs.declared.session.Opening.{Opening}
-use Rattle.dispenser_rules.specs.declared.session.Outcome.{Outcome}
+use Rattle.dispenser_rules.specs.Outcome.{Outcome}
 use Rattle.dispenser_rules.specs.declared.session.Session.{Session}
-use Rattle.dispenser_rules.specs.declared.session.Step.{Step}
+use Rattle.dispenser_rules.specs.Step.{Step}
 use Rattle.dispenser_rules.specs.declared.session.Closing.TheVariants.{Nothing}
-use Rattle.dispenser_rules.specs.declared.session.Reply.TheVariants.{Done}
+use Rattle.dispenser_rules.specs.Reply.{Done}
 use Rattle.refusals.specs.Put.{over}
 use Rattle.ccnet_frame.specs.Frame.{frame}
 use Rattle.ccnet_class.specs.declared.Class.{Class}
@@ -38,9 +39,9 @@ use Rattle.validator_rules.specs.declared.line.Line.{Line as TakerLine}
 use Rattle.validator_rules.specs.declared.line.Todo.{Todo as TakerTodo}
 use Rattle.validator_rules.specs.declared.line.Todo.TheVariants.{Nothing as TakerRest, CloseDamaged, CloseSilent}
 use Rattle.validator_rules.specs.declared.session.Closing.TheVariants.{Nothing as TakerNothing}
-use Rattle.validator_rules.specs.declared.session.Found.{Found}
-use Rattle.validator_rules.specs.declared.session.Found.TheVariants.{Bad, Good}
-use Rattle.validator_rules.specs.declared.session.Outcome.{Outcome as TakerOutcome}
+use Rattle.validator_rules.specs.Found.{Found}
+use Rattle.validator_rules.specs.Found.{Bad, Good}
+use Rattle.validator_rules.specs.Outcome.{Outcome as TakerOutcome}
 use Rattle.validator_rules.specs.declared.session.Session.{Session as Taker}
 use Rattle.validator_rules.specs.declared.session.Step.{Step as TakerStep}
 
@@ -102,7 +103,7 @@ module _ (r q : List ℕ) (e : length r ≡ length q) where
   bad-same l a = acted-same (bad_frame l).todo (bad_frame l).line a
 
   judged-step-same : (x : AnswerRead) (l : Line) (a : Asked) → bare (judged_step x l a r) ≡ bare (judged_step x l a q)
-  judged-step-same (Read answer class) l a = cond_same bare (eqb (answer_code answer) a.code) _ (bad_step l a r) _ (bad_step l a q) refl (bad-same l a)
+  judged-step-same (Ok read) l a = cond_same bare (eqb (answer_code read.answer) a.code) _ (bad_step l a r) _ (bad_step l a q) refl (bad-same l a)
   judged-step-same (NotRead fault) l a = bad-same l a
 
   judge-same : (l : Line) (a : Asked) (store : List ℕ) → bare (judge_step l a store r) ≡ bare (judge_step l a store q)

@@ -15,14 +15,14 @@ use Rattle.dispenser_rules.specs.Errors.{erred_by}
 use Rattle.dispenser_rules.specs.Session.{stepped, refused_step, opens, clear_refusals, clear_step, After, after, session_request, session_byte, session_clear}
 use Rattle.dispenser_rules.specs.declared.errors.LastErrors.{LastErrors}
 use Rattle.dispenser_rules.specs.declared.session.Closing.TheVariants.{Nothing}
-use Rattle.dispenser_rules.specs.declared.session.Outcome.{Outcome}
+use Rattle.dispenser_rules.specs.Outcome.{Outcome}
 use Rattle.dispenser_rules.specs.declared.session.Session.{Session}
 use Rattle.validator_rules.specs.Limits.{least_room as taker_room}
 use Rattle.validator_rules.specs.Session.{After as TakerAfter, after as taker_after}
 use Rattle.validator_rules.specs.declared.session.Closing.TheVariants.{Nothing as TakerNothing}
-use Rattle.validator_rules.specs.declared.session.Reply.TheVariants.{Done as TakerDone}
+use Rattle.validator_rules.specs.Reply.{Done as TakerDone}
 use Rattle.validator_rules.specs.declared.session.Session.{Session as Taker}
-use Rattle.validator_rules.specs.declared.session.Outcome.{Outcome as TakerOutcome}
+use Rattle.validator_rules.specs.Outcome.{Outcome as TakerOutcome}
 use Rattle.recording.specs.declared.Record.{Record}
 use Rattle.recording.specs.declared.Record.TheVariants.{Request, DispenserByte, Tick, ValidatorByte, Command, Clear}
 use Rattle.grading_rules.specs.Replay.{lent_room, lent_room255, payer_declines, taker_declines, counting, by_both, given}

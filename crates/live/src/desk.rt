@@ -10,6 +10,7 @@ use dispenser_rules::LastErrors;
 use grading_rules::Desk;
 use live_rules::Lived;
 use recording::Record;
+use refusals::Done;
 
 // The dispenser session, after a record.
 fn to_dispenser(
@@ -28,10 +29,10 @@ fn to_dispenser(
         Record::Clear => dispenser::clear(session),
         _ => dispenser_rules::Outcome {
             session,
-            reply: dispenser_rules::Reply::Done {
+            reply: Ok(Done {
                 put: 0,
                 closing: dispenser_rules::Closing::Nothing,
-            },
+            }),
         },
     }
 }
@@ -50,10 +51,10 @@ fn to_validator(
         Record::Command(code) => validator::request(session, code, b"", room),
         _ => validator_rules::Outcome {
             session,
-            reply: validator_rules::Reply::Done {
+            reply: Ok(Done {
                 put: 0,
                 closing: validator_rules::Closing::Nothing,
-            },
+            }),
         },
     }
 }
@@ -62,13 +63,7 @@ fn to_validator(
 fn declines(payer: dispenser_rules::Reply, taker: validator_rules::Reply) -> bool
     ensures { result ≡ (payer_declines payer || taker_declines taker) }
 {
-    match payer {
-        dispenser_rules::Reply::NotDone(_) => true,
-        dispenser_rules::Reply::Done { put: _, closing: _ } => match taker {
-            validator_rules::Reply::NotDone(_) => true,
-            validator_rules::Reply::Done { put: _, closing: _ } => false,
-        },
-    }
+    payer.is_err() || taker.is_err()
 }
 
 // The last errors and the count of declined records, after what both sessions answered.

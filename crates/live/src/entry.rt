@@ -4,9 +4,9 @@ ghost use Rattle.live_rules.specs.Entering.{is_full, noted, noted_by, entered, e
 
 use crate::desk::step;
 use grading_rules::Desk;
-use live_rules::{Entered, Entry, Lived};
+use live_rules::{Entered, Lived, NotEntered};
 use recording::{Place, Reader, Record};
-use refusals::Put;
+use refusals::Done;
 
 // The most bytes that a recording may have, and so the most records.
 const MOST: u32 = 4_294_967_295;
@@ -26,15 +26,21 @@ fn is_full(written: u32, records: u32, declined: u32, size: usize) -> bool
 }
 
 // The record's bytes at the room's start, unless the recording is full or the writer refuses.
-fn note(written: u32, records: u32, declined: u32, x: Record, out: &mut [u8]) -> Entry
+fn note(
+    written: u32,
+    records: u32,
+    declined: u32,
+    x: Record,
+    out: &mut [u8],
+) -> Result<usize, NotEntered>
     ensures { noted result out.new ≡ noted_by written records declined x out.old }
 {
     if is_full(written, records, declined, record_writer::length_of(x)) {
-        return Entry::Full;
+        return Err(NotEntered::Full);
     }
     match record_writer::write(x, out) {
-        Put::Bytes(n) => Entry::Bytes(n),
-        Put::Refused(why) => Entry::Refused(why),
+        Ok(n) => Ok(n),
+        Err(why) => Err(NotEntered::Refused(why)),
     }
 }
 
@@ -52,22 +58,22 @@ pub fn enter(
 {
     let entry = note(written, desk.records, desk.declined, x, out);
     match entry {
-        Entry::Bytes(_) => {
+        Ok(_) => {
             let lived = step(desk, x, room, room255);
             Entered { entry, lived }
         }
-        _ => Entered {
+        Err(_) => Entered {
             entry,
             lived: Lived {
                 desk,
-                dispenser: dispenser_rules::Reply::Done {
+                dispenser: Ok(Done {
                     put: 0,
                     closing: dispenser_rules::Closing::Nothing,
-                },
-                validator: validator_rules::Reply::Done {
+                }),
+                validator: Ok(Done {
                     put: 0,
                     closing: validator_rules::Closing::Nothing,
-                },
+                }),
             },
         },
     }

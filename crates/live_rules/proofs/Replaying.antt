@@ -11,8 +11,8 @@ use types.Run.{miss}
 use Rattle.refusals.specs.Numbers.{too_long}
 use Rattle.refusals.specs.Rules.{under, at_most}
 use Rattle.refusals.specs.Put.{written}
-use Rattle.refusals.specs.declared.Put.{Put}
-use Rattle.refusals.specs.declared.Put.TheVariants.{Bytes as Laid, Refused as NotLaid}
+use Rattle.refusals.specs.Put.{Put}
+use Rattle.refusals.specs.Put.{Bytes as Laid, Refused as NotLaid}
 use Rattle.refusals.specs.declared.Refusal.TheVariants.{Room, Range}
 use Rattle.refusals.proofs.Rules.{holds-true, fails-false, by_cases, certain, cond-true, cond-false}
 use Rattle.refusals.proofs.Writing.{done-laid, take-over}
@@ -29,7 +29,7 @@ use Rattle.recording.specs.declared.Reader.{Reader}
 use Rattle.recording.specs.declared.Record.{Record}
 use Rattle.recording.specs.declared.Record.TheVariants.{Request, DispenserByte, Tick, ValidatorByte, Command, Clear}
 use Rattle.recording.specs.declared.Step.{Step}
-use Rattle.recording.specs.declared.taking.NextRecord.TheVariants.{Whole}
+use Rattle.recording.specs.NextRecord.{Whole}
 use Rattle.recording.proofs.Back.{length-record}
 use Rattle.recording.proofs.Exact.{taken-at-once}
 use Rattle.recording.proofs.Folds.{taken-before}
@@ -49,8 +49,8 @@ use Rattle.grading_rules.proofs.Taken.{at-hand, whole-given}
 use Rattle.live_rules.specs.Live.{lived_by}
 use Rattle.live_rules.specs.Entering.{entry_number, is_full, Noted, noted, as_entry, noted_by, lived_as, entered_by, whole_in, whole_bytes}
 use Rattle.live_rules.specs.Promises.{Call, Work, grown, longer, worked, works, fresh_work, Replays, LiveIsReplay}
-use Rattle.live_rules.specs.declared.entry.Entry.{Entry}
-use Rattle.live_rules.specs.declared.entry.Entry.TheVariants.{Bytes, Refused, Full}
+use Rattle.live_rules.specs.Entry.{Entry}
+use Rattle.live_rules.specs.Entry.{Bytes, Refused, Full}
 
 -- ---- the bytes of a record
 

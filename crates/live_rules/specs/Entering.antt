@@ -2,12 +2,12 @@
 use Rattle.std.specs.Prelude.{ℕ, ◌+◌, cond, List, length}
 use Rattle.refusals.specs.Numbers.{refusal_number, too_long}
 use Rattle.refusals.specs.Rules.{Condition, under, at_most, either}
-use Rattle.refusals.specs.declared.Put.{Put}
-use Rattle.refusals.specs.declared.Put.TheVariants.{Bytes as Laid, Refused as NotLaid}
+use Rattle.refusals.specs.Put.{Put}
+use Rattle.refusals.specs.Put.{Bytes as Laid, Refused as NotLaid}
 use Rattle.dispenser_rules.specs.declared.session.Closing.TheVariants.{Nothing}
-use Rattle.dispenser_rules.specs.declared.session.Reply.TheVariants.{Done}
+use Rattle.dispenser_rules.specs.Reply.{Done}
 use Rattle.validator_rules.specs.declared.session.Closing.TheVariants.{Nothing as TakerNothing}
-use Rattle.validator_rules.specs.declared.session.Reply.TheVariants.{Done as TakerDone}
+use Rattle.validator_rules.specs.Reply.{Done as TakerDone}
 use Rattle.recording.specs.Record.{most_bytes, record_bytes}
 use Rattle.recording.specs.declared.Place.{Place}
 use Rattle.recording.specs.declared.Place.TheVariants.{Kind, Code, Upper, Lower, FromDispenser, Milliseconds, FromValidator, ToValidator, Broken}
@@ -17,8 +17,8 @@ use Rattle.record_writer.specs.Writing.{write_record}
 use Rattle.grading_rules.specs.declared.desk.Desk.{Desk}
 use Rattle.live_rules.specs.Live.{Living, lived, lived_by}
 use Rattle.live_rules.specs.declared.entry.Entered.{Entered}
-use Rattle.live_rules.specs.declared.entry.Entry.{Entry}
-use Rattle.live_rules.specs.declared.entry.Entry.TheVariants.{Bytes, Refused, Full}
+use Rattle.live_rules.specs.Entry.{Entry}
+use Rattle.live_rules.specs.Entry.{Bytes, Refused, Full}
 
 -- 01's number for each: the writer's, and 24, "over 4,294,967,295 bytes"; 0 where the record is entered
 abbrev pub entry_number : Entry → ℕ

@@ -2,3 +2,4 @@
 pub mod Live
 pub mod Entering
 pub mod Promises
+pub mod Entry

@@ -3,13 +3,13 @@
 use Rattle.std.specs.Prelude.{ℕ, List, []}
 use Rattle.dispenser_rules.specs.Session.{After, session_request, session_byte, session_tick, session_clear}
 use Rattle.dispenser_rules.specs.declared.session.Closing.TheVariants.{Nothing}
-use Rattle.dispenser_rules.specs.declared.session.Reply.{Reply}
-use Rattle.dispenser_rules.specs.declared.session.Reply.TheVariants.{Done}
+use Rattle.dispenser_rules.specs.Reply.{Reply}
+use Rattle.dispenser_rules.specs.Reply.{Done}
 use Rattle.dispenser_rules.specs.declared.session.Session.{Session}
 use Rattle.validator_rules.specs.Session.{After as TakerAfter, session_request as taker_request, session_byte as taker_byte, session_tick as taker_tick}
 use Rattle.validator_rules.specs.declared.session.Closing.TheVariants.{Nothing as TakerNothing}
-use Rattle.validator_rules.specs.declared.session.Reply.{Reply as TakerReply}
-use Rattle.validator_rules.specs.declared.session.Reply.TheVariants.{Done as TakerDone}
+use Rattle.validator_rules.specs.Reply.{Reply as TakerReply}
+use Rattle.validator_rules.specs.Reply.{Done as TakerDone}
 use Rattle.validator_rules.specs.declared.session.Session.{Session as Taker}
 use Rattle.recording.specs.declared.Record.{Record}
 use Rattle.recording.specs.declared.Record.TheVariants.{Request, DispenserByte, Tick, ValidatorByte, Command, Clear}

@@ -9,8 +9,8 @@ use Rattle.grading_rules.specs.Replay.{fresh_desk, told}
 use Rattle.grading_rules.specs.Feeding.{fresh_replay, broken_at, fed_piece, replay_of}
 use Rattle.grading_rules.specs.declared.desk.Desk.{Desk}
 use Rattle.live_rules.specs.Entering.{entry_number, noted_by, entered_by, whole_bytes}
-use Rattle.live_rules.specs.declared.entry.Entry.{Entry}
-use Rattle.live_rules.specs.declared.entry.Entry.TheVariants.{Bytes, Refused, Full}
+use Rattle.live_rules.specs.Entry.{Entry}
+use Rattle.live_rules.specs.Entry.{Bytes, Refused, Full}
 
 -- a record, and the rooms that are lent. Every number of a record that code can give is below 4,294,967,296
 pub record Call : Type 0 where

@@ -2,10 +2,9 @@
 use crate::desk::Lived;
 use refusals::Refusal;
 
-// What became of a record: entered, as so many bytes at the room's start; refused by the writer; or refused since the recording may not grow by so much (document 01's number 24).
+// Why a record is not entered: the writer refuses it, or the recording may not grow by so much (document 01's number 24).
 #[derive(Clone, Copy)]
-pub enum Entry {
-    Bytes(usize),
+pub enum NotEntered {
     Refused(Refusal),
     Full,
 }
@@ -13,6 +12,7 @@ pub enum Entry {
 // Where nothing was entered, the desk is as it was, and both replies are Done, with nothing put and no closing.
 #[derive(Clone, Copy)]
 pub struct Entered {
-    pub entry: Entry,
+    // How many bytes the record has at the room's start.
+    pub entry: Result<usize, NotEntered>,
     pub lived: Lived,
 }

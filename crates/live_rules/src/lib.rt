@@ -5,4 +5,4 @@ mod desk;
 mod entry;
 
 pub use desk::Lived;
-pub use entry::{Entered, Entry};
+pub use entry::{Entered, NotEntered};

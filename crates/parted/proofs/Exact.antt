@@ -9,7 +9,7 @@ use Rattle.numbers.specs.Promises.{AllBytes}
 use Rattle.recording.specs.Record.{record_bytes, laid, AllInRange}
 use Rattle.recording.specs.declared.Record.{Record}
 use Rattle.recording.proofs.Exact.{none-laid, more-laid}
-use Rattle.parted.specs.declared.Next.{Next}
+use Rattle.parted.specs.Next.{Next}
 use Rattle.parted.specs.declared.Parted.{Parted}
 use Rattle.parted.specs.declared.Turn.{Turn}
 use Rattle.parted.specs.declared.Turn.TheVariants.{On, Ends}

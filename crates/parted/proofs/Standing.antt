@@ -13,12 +13,12 @@ use Rattle.recording.specs.Taking.{found_at}
 use Rattle.recording.specs.Promises.{Faulty as Fault-in, kind, value, number, cut}
 use Rattle.recording.specs.declared.Fault.{Fault}
 use Rattle.recording.specs.declared.Record.{Record}
-use Rattle.recording.specs.declared.taking.NextRecord.{NextRecord}
-use Rattle.recording.specs.declared.taking.NextRecord.TheVariants.{Whole as IsWhole, Bad as IsBad}
+use Rattle.recording.specs.NextRecord.{NextRecord}
+use Rattle.recording.specs.NextRecord.{Whole as IsWhole, Bad as IsBad}
 use Rattle.recording.proofs.Back.{length-record}
 use Rattle.recording.proofs.Exact.{taken-at-once}
-use Rattle.parted.specs.declared.Due.{Due}
-use Rattle.parted.specs.declared.Due.TheVariants.{End, Whole, Faulty}
+use Rattle.parted.specs.Due.{Due}
+use Rattle.parted.specs.Due.{End, Whole, Faulty}
 use Rattle.parted.specs.Promises.{Starts, Sound}
 use Rattle.parted.specs.Parting.{due_of, due_at}
 use Rattle.parted.proofs.Turns.{due-end, due-inside}

@@ -4,11 +4,12 @@ use Prim.Native.Nat.{ℕ}
 use mathlib.Core.Path.{◌≡◌, sym, ap₂, ◌∙◌}
 use mathlib.Core.List.{List}
 use denote.Ref.{Bor}
+use Rattle.std.specs.Prelude.{Err}
 use Rattle.refusals.proofs.Tied.{Tied, tied}
 use Rattle.ccnet_frame.specs.Part.{Part}
 use Rattle.parted.specs.declared.Whose.TheVariants.{Student, Reference}
-use Rattle.parted.specs.declared.Next.{Next}
-use Rattle.parted.specs.declared.Next.TheVariants.{Rest, Malformed}
+use Rattle.parted.specs.Next.{Next}
+use Rattle.parted.specs.Next.{Rest}
 use Rattle.parted.specs.Parting.{parting_of}
 use Rattle.parted.specs.Remainder.{IsHandedBack}
 use Rattle.parted.proofs.parting.Kinds as parting
@@ -26,7 +27,7 @@ one-handed : (next : Next) (at : ℕ) (s t r q : Bor (List ℕ)) → IsHandedBac
     → ◌≡◌ {A = (ℕ × ℕ) × List ℕ} (r.ref_ptr, r.now) (q.ref_ptr, q.now)
 one-handed (Rest Student) at s t r q v w = one-part s r q at _ v w
 one-handed (Rest Reference) at s t r q v w = one-part t r q at _ v w
-one-handed (Malformed whose why) at s t r q v w = one-part s r q 0 0 v w
+one-handed (Err x) at s t r q v w = one-part s r q 0 0 v w
 
 pub remainder-tied : Tied remainder.ps remainder.r remainder-reads.Post {A = (ℕ × ℕ) × List ℕ} (λ κs x e. (x.ref_ptr, x.now))
 remainder-tied κs a x y e f p q =

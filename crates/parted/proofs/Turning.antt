@@ -1,5 +1,6 @@
 -- A turn by the bytes that are left of the two: it goes on exactly where both begin with the same record, and ends exactly as it should. Assumes nothing.
-use Prim.Native.Nat.{ℕ, ◌+◌, ◌<◌}
+use Rattle.std.specs.Prelude.{Err}
+use Prim.Native.Nat.{ℕ, ◌<◌}
 use mathlib.Core.Path.{◌≡◌, refl, sym, ap, ap₂, ◌∙◌, subst}
 use mathlib.Core.Bool.{Bool, true, false, cond}
 use mathlib.Core.List.{List, ◌++◌}
@@ -11,14 +12,15 @@ use Rattle.recording.specs.Record.{record_bytes}
 use Rattle.recording.specs.Promises.{Faulty as Fault-in}
 use Rattle.recording.specs.declared.Fault.{Fault}
 use Rattle.recording.specs.declared.Record.{Record}
+use Rattle.parted.specs.declared.Whose.{Whose}
 use Rattle.parted.specs.declared.Whose.TheVariants.{Student, Reference}
-use Rattle.parted.specs.declared.Next.{Next}
-use Rattle.parted.specs.declared.Next.TheVariants.{Rest, Malformed}
-use Rattle.parted.specs.declared.Due.{Due}
-use Rattle.parted.specs.declared.Due.TheVariants.{End, Whole, Faulty}
+use Rattle.parted.specs.Next.{Next}
+use Rattle.parted.specs.Next.{Rest, Malformed}
+use Rattle.parted.specs.Due.{Due}
+use Rattle.parted.specs.Due.{End, Whole, Faulty}
 use Rattle.parted.specs.declared.Turn.TheVariants.{On, Ends}
 use Rattle.parted.specs.Parting.{equal, due_at, beside_record, beside_end, turn_by, turn_at}
-use Rattle.parted.specs.Promises.{Starts, Follows}
+use Rattle.parted.specs.Promises.{Starts, FaultShows, Follows}
 use Rattle.parted.proofs.Equal.{equal-true, equal-shown, equal-denied}
 use Rattle.parted.proofs.Turns.{due-fits, turn_on, turn_by_lem}
 use Rattle.parted.proofs.Standing.{Stands, nothing, one, none, due-stands, stands-due, sound-end, sound-whole}
@@ -147,9 +149,9 @@ module _ (s t : List ℕ) (at : ℕ) (h : AllBytes s) (k : AllBytes t) where
       by (Whole n) p (Faulty why) q =
           follows-as (Malformed Reference why) (sound-whole s at h p, fault-there t at k why q) (sym (ap (beside_record s t at n) q) ∙ turn_by_lem s t at _ p ∙ w)
 
-  pub ends-from : (next : Next) → Follows (drop at s) (drop at t) next → turn_at s t at ≡ Ends next
-  ends-from (Malformed Student why) f = by_turn _ (stands-due s at h _ (none why f))
-  ends-from (Malformed Reference why) f = by (due_at s at) refl (due-stands s at h)
+  fault-from : (why : Fault) (whose : Whose) → FaultShows (drop at s) (drop at t) why whose → turn_at s t at ≡ Ends (Malformed whose why)
+  fault-from why Student f = by_turn _ (stands-due s at h _ (none why f))
+  fault-from why Reference f = by (due_at s at) refl (due-stands s at h)
     where
       q : due_at t at ≡ Faulty why
       q = stands-due t at k _ (none why f.1)
@@ -158,6 +160,9 @@ module _ (s t : List ℕ) (at : ℕ) (h : AllBytes s) (k : AllBytes t) where
       by d p (nothing l) = by_turn d p ∙ ap beside_end q
       by d p (one x w) = by_turn d p ∙ ap (beside_record s t at (length (record_bytes x))) q
       by d p (none other g) = absurd (f.0 other g)
+
+  pub ends-from : (next : Next) → Follows (drop at s) (drop at t) next → turn_at s t at ≡ Ends next
+  ends-from (Err x) f = fault-from x.why x.whose f
   ends-from (Rest Student) f = by (due_at s at) refl (due-stands s at h) (due_at t at) refl (due-stands t at k)
     where
       differ : (x y : Record) → Starts x (drop at s) → Starts y (drop at t) → (b : Bool)

@@ -10,13 +10,13 @@ use borrow.Author.Tests.{le-leb, lt-leb}
 use Rattle.refusals.specs.Rules.{at_most}
 use Rattle.refusals.proofs.Rules.{by_cases}
 use Rattle.recording.specs.Taking.{found_at}
-use Rattle.recording.specs.declared.taking.NextRecord.{NextRecord}
-use Rattle.recording.specs.declared.taking.NextRecord.TheVariants.{Whole as IsWhole, Bad as IsBad}
+use Rattle.recording.specs.NextRecord.{NextRecord}
+use Rattle.recording.specs.NextRecord.{Whole as IsWhole, Bad as IsBad}
 use Rattle.recording.proofs.Starts.{whole-read}
-use Rattle.parted.specs.declared.Next.{Next}
+use Rattle.parted.specs.Next.{Next}
 use Rattle.parted.specs.declared.Parted.{Parted}
-use Rattle.parted.specs.declared.Due.{Due}
-use Rattle.parted.specs.declared.Due.TheVariants.{End, Whole, Faulty}
+use Rattle.parted.specs.Due.{Due}
+use Rattle.parted.specs.Due.{End, Whole, Faulty}
 use Rattle.parted.specs.declared.Turn.{Turn}
 use Rattle.parted.specs.declared.Turn.TheVariants.{On, Ends}
 use Rattle.parted.specs.Parting.{equal, due_of, due_at, beside_record, beside_end, turn_by, turn_at, parted, turned, parting_in, parting_from, parting_of}

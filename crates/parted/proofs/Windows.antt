@@ -1,5 +1,5 @@
 -- The first 16 bytes of two recordings, or more, show how they begin. Assumes nothing.
-use Prim.Native.Nat.{ℕ, zero, suc, ◌+◌, ◌-◌, ◌*◌, ◌/◌, ◌≤◌, ◌<◌}
+use Prim.Native.Nat.{ℕ, zero, suc, ◌+◌, ◌*◌, ◌/◌, ◌≤◌, ◌<◌}
 use mathlib.Core.Path.{◌≡◌, refl, sym, ap, ◌∙◌, subst}
 use mathlib.Core.List.{List, [], ◌∷◌, ◌++◌, append_assoc}
 use native.Mathlib.Omega.{arith}
@@ -9,19 +9,19 @@ use Rattle.refusals.specs.Rules.{under, at_most}
 use Rattle.refusals.proofs.Rules.{by_cases}
 use Rattle.numbers.specs.Promises.{AllBytes}
 use Rattle.numbers.specs.Seven.{number_end, groups, after_group, group_after, read_from, read_groups}
-use Rattle.numbers.specs.declared.Group.{Group}
-use Rattle.numbers.specs.declared.Group.TheVariants.{More, Last, Wrong}
-use Rattle.numbers.specs.declared.Seven.TheVariants.{Bad as NoNumber}
+use Rattle.numbers.specs.Grouped.{Group}
+use Rattle.numbers.specs.Grouped.{More, Last, Wrong}
+use Rattle.numbers.specs.Sevens.{Bad as NoNumber}
 use Rattle.numbers.proofs.Groups.{groups-small, groups-large, group-trips, read-nil, read-cons}
 use Rattle.recording.specs.Record.{how_many, AllBelow, laid_numbers, record_bytes}
 use Rattle.recording.specs.Promises.{Faulty as Fault-in, kind, value, number, cut}
 use Rattle.recording.specs.declared.Fault.{Fault}
 use Rattle.recording.proofs.Trips.{laid_none, laid_more}
 use Rattle.recording.proofs.Exact.{bytes_take}
-use Rattle.parted.specs.declared.Next.{Next}
+use Rattle.parted.specs.Next.{Next}
 use Rattle.parted.specs.declared.Parted.{Parted}
-use Rattle.parted.specs.declared.Due.{Due}
-use Rattle.parted.specs.declared.Due.TheVariants.{Whole}
+use Rattle.parted.specs.Due.{Due}
+use Rattle.parted.specs.Due.{Whole}
 use Rattle.parted.specs.declared.Turn.{Turn}
 use Rattle.parted.specs.declared.Turn.TheVariants.{On, Ends}
 use Rattle.parted.specs.Parting.{due_at, turn_at, parted, parting_from, parting_of}

@@ -2,3 +2,5 @@
 pub mod Parting
 pub mod Remainder
 pub mod Promises
+pub mod Next
+pub mod Due

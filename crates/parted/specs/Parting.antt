@@ -2,14 +2,14 @@
 use Rattle.std.specs.Prelude.{ℕ, zero, suc, ◌+◌, cond, List, [], ◌∷◌, length, take, drop}
 use Rattle.refusals.specs.Rules.{Condition, always, never, both, same, at_most, first_of, ◌gives◌}
 use Rattle.recording.specs.Taking.{found_at}
-use Rattle.recording.specs.declared.taking.NextRecord.{NextRecord}
-use Rattle.recording.specs.declared.taking.NextRecord.TheVariants.{Whole as IsWhole, Bad as IsBad}
+use Rattle.recording.specs.NextRecord.{NextRecord}
+use Rattle.recording.specs.NextRecord.{Whole as IsWhole, Bad as IsBad}
 use Rattle.parted.specs.declared.Whose.TheVariants.{Student, Reference}
-use Rattle.parted.specs.declared.Next.{Next}
-use Rattle.parted.specs.declared.Next.TheVariants.{Rest, Malformed}
+use Rattle.parted.specs.Next.{Next}
+use Rattle.parted.specs.Next.{Rest, Malformed}
 use Rattle.parted.specs.declared.Parted.{Parted}
-use Rattle.parted.specs.declared.Due.{Due}
-use Rattle.parted.specs.declared.Due.TheVariants.{End, Whole, Faulty}
+use Rattle.parted.specs.Due.{Due}
+use Rattle.parted.specs.Due.{End, Whole, Faulty}
 use Rattle.parted.specs.declared.Turn.{Turn}
 use Rattle.parted.specs.declared.Turn.TheVariants.{On, Ends}
 

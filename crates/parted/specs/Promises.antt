@@ -1,13 +1,14 @@
 -- What is promised of where two recordings part. Proved in proofs/Exact.antt, proofs/Omitted.antt and proofs/Windows.antt.
-use Rattle.std.specs.Prelude.{ℕ, ◌+◌, ◌≤◌, ◌<◌, ◌≡◌, List, ◌++◌, ◌↔◌, length, take, drop}
+use Rattle.std.specs.Prelude.{ℕ, ◌+◌, ◌≤◌, ◌<◌, ◌≡◌, List, ◌++◌, ◌↔◌, length, take, drop, Err}
 use Rattle.numbers.specs.Promises.{AllBytes}
 use Rattle.recording.specs.Record.{record_bytes, InRange, laid, AllInRange}
 use Rattle.recording.specs.Promises.{Faulty}
 use Rattle.recording.specs.declared.Fault.{Fault}
 use Rattle.recording.specs.declared.Record.{Record}
+use Rattle.parted.specs.declared.Whose.{Whose}
 use Rattle.parted.specs.declared.Whose.TheVariants.{Student, Reference}
-use Rattle.parted.specs.declared.Next.{Next}
-use Rattle.parted.specs.declared.Next.TheVariants.{Rest, Malformed}
+use Rattle.parted.specs.Next.{Next}
+use Rattle.parted.specs.Next.{Rest}
 use Rattle.parted.specs.declared.Parted.{Parted}
 use Rattle.parted.specs.Parting.{parted, parting_of}
 
@@ -30,11 +31,15 @@ pub record Starts (x : Record) (s : List ℕ) : Type 0 where
 abbrev pub Sound : List ℕ → Type 0
 Sound s = (why : Fault) → Faulty why s → ⊥
 
+-- a fault is named where it shows in that recording's next record; in the reference's, where the student's shows none
+abbrev pub FaultShows : List ℕ → List ℕ → Fault → Whose → Type 0
+FaultShows s t why Student = Faulty why s
+FaultShows s t why Reference = Sound s × Faulty why t
+
 -- what follows the run, where s and t are what is left of the two. The next record of each is judged, "if both are, the student's is named"; then the student's goes on, and
 -- the reference does not go on with the same record; or the student's has ended
 abbrev pub Follows : List ℕ → List ℕ → Next → Type 0
-Follows s t (Malformed Student why) = Faulty why s
-Follows s t (Malformed Reference why) = Sound s × Faulty why t
+Follows s t (Err x) = FaultShows s t x.why x.whose
 Follows s t (Rest Student) = (0 < length s) × Sound s × Sound t × ((x : Record) → Starts x s → Starts x t → ⊥)
 Follows s t (Rest Reference) = (length s ≡ 0) × Sound t
 

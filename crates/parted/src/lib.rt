@@ -6,7 +6,7 @@ ghost use Rattle.std.specs.Prelude.{◌≡◌};
 ghost use Rattle.parted.specs.Parting.{equal, due_at, beside_record, beside_end, turn_at, parting_of};
 ghost use Rattle.parted.specs.Remainder.{Remains};
 
-use recording::{Fault, NextRecord, record_at};
+use recording::{Fault, record_at};
 
 // Which of the two.
 #[derive(Clone, Copy)]
@@ -15,13 +15,11 @@ pub enum Whose {
     Reference,
 }
 
-// What follows the equal records.
+// Which of the two has no record there, and why.
 #[derive(Clone, Copy)]
-pub enum Next {
-    // The remainder that is handed back.
-    Rest(Whose),
-    // No record, and why.
-    Malformed(Whose, Fault),
+pub struct Malformed {
+    pub whose: Whose,
+    pub why: Fault,
 }
 
 // Where two recordings part.
@@ -31,16 +29,8 @@ pub struct Parted {
     pub at: usize,
     // How many records it has.
     pub records: usize,
-    pub next: Next,
-}
-
-// What stands in a recording where a record is due.
-#[derive(Clone, Copy)]
-pub(crate) enum Due {
-    End,
-    // A record of so many bytes.
-    Whole(usize),
-    Faulty(Fault),
+    // Whose remainder is handed back.
+    pub next: Result<Whose, Malformed>,
 }
 
 // What two recordings show where a record is due in both.
@@ -48,52 +38,44 @@ pub(crate) enum Due {
 pub(crate) enum Turn {
     // The same record, of so many bytes.
     On(usize),
-    Ends(Next),
+    Ends(Result<Whose, Malformed>),
 }
 
 // Are the bytes the same?
 fn is_equal(a: &[u8], b: &[u8]) -> bool
     ensures { result ≡ (equal a.now b.now).test }
 {
-    if a.len() != b.len() {
-        return false;
-    }
-    let mut i: usize = 0;
-    while i < a.len() {
-        if a[i] != b[i] {
-            return false;
-        }
-        i += 1;
-    }
-    true
+    a == b
 }
 
-fn due_at(recording: &[u8], at: usize) -> Due
+// How many bytes the record has that is due in a recording; None at its end.
+fn due_at(recording: &[u8], at: usize) -> Result<Option<usize>, Fault>
     ensures { result ≡ due_at recording.now at }
 {
     if recording.len() <= at {
-        return Due::End;
+        return Ok(None);
     }
-    match record_at(recording, at) {
-        NextRecord::Whole(_, n) => Due::Whole(n),
-        NextRecord::Bad(why) => Due::Faulty(why),
-    }
+    let (_, n) = record_at(recording, at)?;
+    Ok(Some(n))
 }
 
 // The student has a record of n bytes there.
 fn beside_record(student: &[u8], reference: &[u8], at: usize, n: usize) -> Turn
-    requires { due_at student.now at ≡ Due.Whole n }
+    requires { due_at student.now at ≡ Ok (Some n) }
     ensures { result ≡ beside_record student.now reference.now at n (due_at reference.now at) }
 {
     match due_at(reference, at) {
-        Due::End => Turn::Ends(Next::Rest(Whose::Student)),
-        Due::Whole(m) => {
+        Ok(None) => Turn::Ends(Ok(Whose::Student)),
+        Ok(Some(m)) => {
             if is_equal(&student[at..at + n], &reference[at..at + m]) {
                 return Turn::On(n);
             }
-            Turn::Ends(Next::Rest(Whose::Student))
+            Turn::Ends(Ok(Whose::Student))
         }
-        Due::Faulty(why) => Turn::Ends(Next::Malformed(Whose::Reference, why)),
+        Err(why) => Turn::Ends(Err(Malformed {
+            whose: Whose::Reference,
+            why,
+        })),
     }
 }
 
@@ -102,9 +84,12 @@ fn beside_end(reference: &[u8], at: usize) -> Turn
     ensures { result ≡ beside_end (due_at reference.now at) }
 {
     match due_at(reference, at) {
-        Due::End => Turn::Ends(Next::Rest(Whose::Reference)),
-        Due::Whole(_) => Turn::Ends(Next::Rest(Whose::Reference)),
-        Due::Faulty(why) => Turn::Ends(Next::Malformed(Whose::Reference, why)),
+        Ok(None) => Turn::Ends(Ok(Whose::Reference)),
+        Ok(Some(_)) => Turn::Ends(Ok(Whose::Reference)),
+        Err(why) => Turn::Ends(Err(Malformed {
+            whose: Whose::Reference,
+            why,
+        })),
     }
 }
 
@@ -112,9 +97,12 @@ fn turn_at(student: &[u8], reference: &[u8], at: usize) -> Turn
     ensures { result ≡ turn_at student.now reference.now at }
 {
     match due_at(student, at) {
-        Due::End => beside_end(reference, at),
-        Due::Whole(n) => beside_record(student, reference, at, n),
-        Due::Faulty(why) => Turn::Ends(Next::Malformed(Whose::Student, why)),
+        Ok(None) => beside_end(reference, at),
+        Ok(Some(n)) => beside_record(student, reference, at, n),
+        Err(why) => Turn::Ends(Err(Malformed {
+            whose: Whose::Student,
+            why,
+        })),
     }
 }
 
@@ -124,6 +112,7 @@ pub fn parting(student: &[u8], reference: &[u8]) -> Parted
 {
     let mut at: usize = 0;
     let mut records: usize = 0;
+    // No `for`: each turn goes on by as many bytes as its record has.
     loop {
         match turn_at(student, reference, at) {
             Turn::On(n) => {
@@ -144,14 +133,9 @@ pub fn remainder<'a>(student: &'a [u8], reference: &'a [u8]) -> &'a [u8]
 {
     let parted = parting(student, reference);
     let at = parted.at;
-    let next = parted.next;
-    match next {
-        Next::Rest(whose) => {
-            match whose {
-                Whose::Student => &student[at..],
-                Whose::Reference => &reference[at..],
-            }
-        }
-        Next::Malformed(_, _) => &student[0..0],
+    match parted.next {
+        Ok(Whose::Student) => &student[at..],
+        Ok(Whose::Reference) => &reference[at..],
+        Err(_) => &student[0..0],
     }
 }

@@ -10,8 +10,8 @@ use Rattle.payout.specs.Counts.{total, worth, Within, Each, Makes, Chosen}
 use Rattle.payout.specs.Plan.{in_range, Right}
 use Rattle.payout.specs.Promises.{NoNotes, Dispensed}
 use Rattle.payout.specs.declared.NoPlan.TheVariants.{Range, NoPayout}
-use Rattle.payout.specs.declared.Plan.{Plan}
-use Rattle.payout.specs.declared.Plan.TheVariants.{Two, Four, Refused}
+use Rattle.payout.specs.Planned.{Plan}
+use Rattle.payout.specs.Planned.{Two, Four, Refused}
 use Rattle.payout.proofs.Turn.{before-total}
 
 -- ---- no notes make amount 0

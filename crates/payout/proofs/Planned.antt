@@ -1,7 +1,7 @@
 -- A plan made of what the search finds is right. Assumes nothing.
 use Prim.Native.Nat.{ℕ, ◌*◌, ◌≤◌}
 use mathlib.Core.Path.{◌≡◌, refl, sym, ◌∙◌}
-use mathlib.Core.Logic.{◌⊎◌, inl, inr, ⊎_elim}
+use mathlib.Core.Logic.{inl, inr, ⊎_elim}
 use mathlib.Core.Bool.{false}
 use mathlib.Core.List.{List, [], ◌∷◌}
 use native.Mathlib.Omega.{arith}
@@ -10,9 +10,9 @@ use Rattle.payout.specs.Counts.{total, Within, Each, Makes}
 use Rattle.payout.specs.Plan.{in_range, Right}
 use Rattle.payout.specs.Scaffolding.{Job, Answer, plan_of}
 use Rattle.payout.specs.declared.NoPlan.TheVariants.{Range}
-use Rattle.payout.specs.declared.Plan.TheVariants.{Refused}
-use Rattle.payout.specs.declared.Found.{Found}
-use Rattle.payout.specs.declared.Found.TheVariants.{Nothing, Best}
+use Rattle.payout.specs.Planned.{Refused}
+use Rattle.payout.specs.Found.{Found}
+use Rattle.payout.specs.Found.{Nothing, Best}
 use Rattle.payout.proofs.Turn.{covers}
 
 pub within-length : (ss ns : List ℕ) → Within ss ns → length ns ≡ length ss

@@ -9,8 +9,8 @@ use Rattle.payout.specs.Counts.{MostFirst, Before, Makes, Chosen, None}
 use Rattle.payout.specs.Plan.{in_range, Right}
 use Rattle.payout.specs.Promises.{Sole, ExactlyWhen}
 use Rattle.payout.specs.declared.NoPlan.TheVariants.{Range, NoPayout}
-use Rattle.payout.specs.declared.Plan.{Plan}
-use Rattle.payout.specs.declared.Plan.TheVariants.{Two, Four, Refused}
+use Rattle.payout.specs.Planned.{Plan}
+use Rattle.payout.specs.Planned.{Two, Four, Refused}
 use Rattle.payout.proofs.Planned.{within-length}
 
 -- ---- counts that come before each other are the same

@@ -13,8 +13,8 @@ use lib.Seq.{take_all}
 use Rattle.payout.specs.Counts.{total, worth, Within, Each, MostFirst, Before, Chosen}
 use Rattle.payout.specs.Scaffolding.{Job, held, Answer, lesser, with, better, notes_of}
 use Rattle.payout.specs.declared.Counts.{Counts}
-use Rattle.payout.specs.declared.Found.{Found}
-use Rattle.payout.specs.declared.Found.TheVariants.{Nothing, Best}
+use Rattle.payout.specs.Found.{Found}
+use Rattle.payout.specs.Found.{Nothing, Best}
 
 -- the counts that do a job with fewer than n of the first cassette
 abbrev pub Below : List ℕ → List ℕ → ℕ → ℕ → ℕ → ℕ → List ℕ → Type 0

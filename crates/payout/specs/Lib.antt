@@ -3,3 +3,5 @@ pub mod Counts
 pub mod Plan
 pub mod Promises
 pub mod Scaffolding
+pub mod Planned
+pub mod Found

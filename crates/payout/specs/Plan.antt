@@ -5,8 +5,8 @@ use Rattle.refusals.specs.Numbers.{out_of_range, no_payout}
 use Rattle.payout.specs.Counts.{Makes, Chosen, None}
 use Rattle.payout.specs.declared.NoPlan.{NoPlan}
 use Rattle.payout.specs.declared.NoPlan.TheVariants.{Range, NoPayout}
-use Rattle.payout.specs.declared.Plan.{Plan}
-use Rattle.payout.specs.declared.Plan.TheVariants.{Two, Four, Refused}
+use Rattle.payout.specs.Planned.{Plan}
+use Rattle.payout.specs.Planned.{Two, Four, Refused}
 
 -- "a note value of 1 to 1,000,000 and a stock of 0 to 2,000"
 abbrev pub fits : ℕ → ℕ → Condition

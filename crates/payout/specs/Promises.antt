@@ -4,8 +4,8 @@ use Rattle.std.specs.Prelude.{ℕ, ◌+◌, ◌≤◌, ◌≡◌, ◌⊎◌, ◌
 use Rattle.payout.specs.Counts.{Makes, None}
 use Rattle.payout.specs.Plan.{in_range, no_plan_number, Right}
 use Rattle.payout.specs.declared.NoPlan.TheVariants.{Range, NoPayout}
-use Rattle.payout.specs.declared.Plan.{Plan}
-use Rattle.payout.specs.declared.Plan.TheVariants.{Two, Four, Refused}
+use Rattle.payout.specs.Planned.{Plan}
+use Rattle.payout.specs.Planned.{Two, Four, Refused}
 
 -- there is one right answer and no other
 abbrev pub Sole : Type 0

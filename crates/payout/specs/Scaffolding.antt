@@ -2,11 +2,11 @@
 use Rattle.std.specs.Prelude.{ℕ, ◌+◌, ◌≤◌, ◌≡◌, cond, List, [], ◌∷◌, ltb, leb, eqb, take}
 use Rattle.payout.specs.Counts.{total, worth, Within, Each, Chosen, None}
 use Rattle.payout.specs.declared.NoPlan.TheVariants.{NoPayout}
-use Rattle.payout.specs.declared.Plan.{Plan}
-use Rattle.payout.specs.declared.Plan.TheVariants.{Two, Four, Refused}
+use Rattle.payout.specs.Planned.{Plan}
+use Rattle.payout.specs.Planned.{Two, Four, Refused}
 use Rattle.payout.specs.declared.Counts.{Counts}
-use Rattle.payout.specs.declared.Found.{Found}
-use Rattle.payout.specs.declared.Found.TheVariants.{Nothing, Best}
+use Rattle.payout.specs.Found.{Found}
+use Rattle.payout.specs.Found.{Nothing, Best}
 
 -- counts that do a job: none above its stock nor above `each`, at most `room` in all, and they make the amount
 pub record Job (values stocks : List ℕ) (each room amount : ℕ) (counts : List ℕ) : Type 0 where

@@ -3,9 +3,8 @@
 
 ghost use Rattle.std.specs.Prelude.{◌≡◌, ◌+◌, ◌≤◌, ◌<◌, ◌^◌, length};
 ghost use Rattle.payout.specs.Plan.{fits, cassettes_fit, two_or_four, in_range, no_plan_number, Right};
-ghost use Rattle.payout.specs.Scaffolding.{Job, Answer, lesser, better, notes_of, taken_from, plan_of};
+ghost use Rattle.payout.specs.Scaffolding.{Job, Answer, better, notes_of, taken_from, plan_of};
 
-use numbers::count_within;
 use refusals::{PAYOUT, RANGE};
 
 // A note value is 1 to this, and a stock and an amount are at most that.
@@ -44,7 +43,7 @@ impl NoPlan {
     }
 }
 
-// How many to take from each cassette, or why not.
+// How many to take from each cassette.
 #[derive(Clone, Copy)]
 pub enum Plan {
     Two {
@@ -57,7 +56,6 @@ pub enum Plan {
         third: u32,
         fourth: u32,
     },
-    Refused(NoPlan),
 }
 
 // How many to take from each cassette that is left, and how many notes that is. Where fewer are left, the last counts say nothing.
@@ -70,49 +68,34 @@ struct Counts {
     fourth: u32,
 }
 
-// What a search has found so far.
-#[derive(Clone, Copy)]
-enum Found {
-    Nothing,
-    Best(Counts),
-}
-
 // The plan with the fewest notes; among equals the one with the most from the first cassette, then the second, and so on.
-pub fn find(values: &[u32], stocks: &[u32], amount: u32) -> Plan
+pub fn find(values: &[u32], stocks: &[u32], amount: u32) -> Result<Plan, NoPlan>
     ensures { Right values.now stocks.now amount result }
 {
-    if is_in_range(values, stocks, amount) {
-        if values.len() == 2 {
-            return plan_of(fewest(values, stocks, EACH_OF_TWO, ALL_OF_TWO, amount), 2);
-        }
-        return plan_of(fewest(values, stocks, ALL_OF_FOUR, ALL_OF_FOUR, amount), 4);
+    if !is_in_range(values, stocks, amount) {
+        Err(NoPlan::Range)
+    } else if values.len() == 2 {
+        plan_of(fewest(values, stocks, EACH_OF_TWO, ALL_OF_TWO, amount), 2)
+    } else {
+        plan_of(fewest(values, stocks, ALL_OF_FOUR, ALL_OF_FOUR, amount), 4)
     }
-    Plan::Refused(NoPlan::Range)
 }
 
 // Is every input in its range?
+#[tactic(auto, using(refusals::proofs::Rules::tests), unfolding(crate::specs::Plan::in_range))]
 fn is_in_range(values: &[u32], stocks: &[u32], amount: u32) -> bool
     ensures { result ≡ (in_range values.now stocks.now amount).test }
 {
-    if MOST_AMOUNT < amount {
-        return false;
-    }
-    if values.len() != stocks.len() {
-        return false;
-    }
-    if is_two_or_four(values.len()) {
-        return do_fit(values, stocks);
-    }
-    false
+    amount <= MOST_AMOUNT
+        && values.len() == stocks.len()
+        && is_two_or_four(values.len())
+        && do_fit(values, stocks)
 }
 
 fn is_two_or_four(n: usize) -> bool
     ensures { result ≡ (two_or_four n).test }
 {
-    if n == 2 {
-        return true;
-    }
-    n == 4
+    n == 2 || n == 4
 }
 
 // Does every cassette fit?
@@ -120,11 +103,8 @@ fn do_fit(values: &[u32], stocks: &[u32]) -> bool
     requires { length values.now ≡ length stocks.now }
     ensures { result ≡ (cassettes_fit values.now stocks.now).test }
 {
-    let mut i: usize = 0;
-    while i < values.len() {
-        if does_fit(values[i], stocks[i]) {
-            i += 1;
-        } else {
+    for (i, &value) in values.iter().enumerate() {
+        if !does_fit(value, stocks[i]) {
             return false;
         }
     }
@@ -135,48 +115,47 @@ fn do_fit(values: &[u32], stocks: &[u32]) -> bool
 fn does_fit(value: u32, stock: u32) -> bool
     ensures { result ≡ (fits value stock).test }
 {
-    if count_within(1, MOST_VALUE, value) {
-        return stock <= MOST_STOCK;
-    }
-    false
+    (1..=MOST_VALUE).contains(&value) && stock <= MOST_STOCK
 }
 
 // What was found, as the plan for so many cassettes.
-fn plan_of(found: Found, cassettes: usize) -> Plan
+fn plan_of(found: Option<Counts>, cassettes: usize) -> Result<Plan, NoPlan>
     ensures { result ≡ plan_of cassettes found }
 {
     match found {
-        Found::Nothing => Plan::Refused(NoPlan::NoPayout),
-        Found::Best(c) => taken(c, cassettes),
+        Some(counts) => Ok(taken(counts, cassettes)),
+        None => Err(NoPlan::NoPayout),
     }
 }
 
+#[tactic(auto, using(refusals::proofs::Rules::tests))]
 fn taken(c: Counts, cassettes: usize) -> Plan
-    ensures { result ≡ taken_from cassettes c }
+    ensures { Ok result ≡ taken_from cassettes c }
 {
     if cassettes == 2 {
-        return Plan::Two {
+        Plan::Two {
             first: c.first,
             second: c.second,
-        };
-    }
-    Plan::Four {
-        first: c.first,
-        second: c.second,
-        third: c.third,
-        fourth: c.fourth,
+        }
+    } else {
+        Plan::Four {
+            first: c.first,
+            second: c.second,
+            third: c.third,
+            fourth: c.fourth,
+        }
     }
 }
 
 // The search, over the cassettes one by one: with each number of notes from the first of them, the rest of the job is the same job with one cassette
 // fewer. It takes at most `each` from a cassette, and at most `room` in all.
-fn fewest(values: &[u32], stocks: &[u32], each: u32, room: u32, amount: u32) -> Found
+fn fewest(values: &[u32], stocks: &[u32], each: u32, room: u32, amount: u32) -> Option<Counts>
     requires { (length values.now ≤ 4) × (length values.now ≡ length stocks.now) × (room ≤ 120) }
     ensures { Answer (Job values.now stocks.now each room amount) (length values.now) result }
 {
-    if values.len() == 0 {
+    if values.is_empty() {
         if amount == 0 {
-            return Found::Best(Counts {
+            return Some(Counts {
                 notes: 0,
                 first: 0,
                 second: 0,
@@ -184,55 +163,41 @@ fn fewest(values: &[u32], stocks: &[u32], each: u32, room: u32, amount: u32) -> 
                 fourth: 0,
             });
         }
-        return Found::Nothing;
+        return None;
     }
     let value = values[0];
-    let most = least(stocks[0], least(each, room));
-    let mut found = Found::Nothing;
-    let mut n: u32 = 0;
+    let most = stocks[0].min(each.min(room));
+    let mut found = None;
     let mut left = amount;
-    while n <= most {
+    for n in 0..=most {
         let rest = fewest(&values[1..], &stocks[1..], each, room - n, left);
         found = better_of(found, n, rest);
         if left < value {
             return found;
         }
         left -= value;
-        n += 1;
     }
     found
 }
 
-fn least(a: u32, b: u32) -> u32
-    ensures { result ≡ lesser a b }
-{
-    if a < b { a } else { b }
-}
-
 // What was found with fewer notes from the first cassette, or, where it has no more notes in all, what was found with n from it and the rest.
-fn better_of(found: Found, n: u32, rest: Found) -> Found
+#[tactic(auto, using(refusals::proofs::Rules::tests), unfolding(crate::specs::Scaffolding::better))]
+fn better_of(found: Option<Counts>, n: u32, rest: Option<Counts>) -> Option<Counts>
     requires { n + notes_of rest < 2 ^ 32 }
     ensures { result ≡ better found n rest }
 {
-    match rest {
-        Found::Nothing => found,
-        Found::Best(c) => {
-            let notes = n + c.notes;
-            let with = Counts {
-                notes: notes,
-                first: n,
-                second: c.first,
-                third: c.second,
-                fourth: c.third,
-            };
-            match found {
-                Found::Nothing => Found::Best(with),
-                Found::Best(old) => if notes <= old.notes {
-                    Found::Best(with)
-                } else {
-                    Found::Best(old)
-                },
-            }
-        }
+    let Some(c) = rest else {
+        return found;
+    };
+    let with = Counts {
+        notes: n + c.notes,
+        first: n,
+        second: c.first,
+        third: c.second,
+        fourth: c.third,
+    };
+    match found {
+        Some(old) if old.notes < with.notes => found,
+        _ => Some(with),
     }
 }

@@ -1,20 +1,21 @@
 -- The command for a plan asks for its counts and can be sent, and nothing is sent exactly where the amount is 0. Assumes nothing.
+use Rattle.std.specs.Prelude.{Some}
 use Prim.Native.Nat.{ℕ, ◌≤◌}
 use mathlib.Core.Path.{◌≡◌, refl, subst, ap₂}
 use mathlib.Core.List.{List}
-use mathlib.Core.Logic.{◌⊎◌, inl, inr, ⊎_elim}
+use mathlib.Core.Logic.{inl, inr, ⊎_elim}
 use native.Mathlib.Omega.{arith}
 use Rattle.refusals.specs.Rules.{same, both}
 use Rattle.refusals.proofs.Rules.{pick, holds-true}
 use Rattle.payout.specs.Plan.{in_range, Right}
-use Rattle.payout.specs.declared.Plan.TheVariants.{Two, Four}
+use Rattle.payout.specs.Planned.{Two, Four}
 use Rattle.payout.proofs.Exact.{no-notes, dispensed}
 use Rattle.dispenser_frame_rules.specs.Table.{table, code_in, line_in, pay_upper_code, pay_lower_code, pay_both_code}
 use Rattle.dispenser_frame_rules.specs.Command.{counts_fit, sendable}
 use Rattle.payout_command.specs.Command.{command_for}
 use Rattle.payout_command.specs.Promises.{Sent}
-use Rattle.payout_command.specs.declared.Command.{Command}
-use Rattle.payout_command.specs.declared.Command.TheVariants.{Nothing, Send}
+use Rattle.payout_command.specs.Sent.{Command}
+use Rattle.payout_command.specs.Sent.{Nothing, Send}
 
 -- ---- each of the three can be sent
 
@@ -37,8 +38,8 @@ both-sent a b n m h g = (inr (inr (inr (inr (inl refl)))), ((some a n, h), (some
 
 abbrev Says : ℕ → ℕ → Command → Type 0
 Says a b Nothing = (a ≡ 0) × (b ≡ 0)
-Says a b (Send code upper lower) =
-    (((a ≡ 0) × (b ≡ 0)) → ⊥) × ((upper ≡ a) × (lower ≡ b)) × (a ≤ 60 → b ≤ 60 → (sendable code upper lower).holds)
+Says a b (Some command) =
+    (((a ≡ 0) × (b ≡ 0)) → ⊥) × ((command.upper ≡ a) × (command.lower ≡ b)) × (a ≤ 60 → b ≤ 60 → (sendable command.code command.upper command.lower).holds)
 
 says : (a b : ℕ) → Says a b (command_for a b)
 unfolding command_for

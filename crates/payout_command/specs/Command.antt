@@ -2,8 +2,8 @@
 use Rattle.std.specs.Prelude.{ℕ, [], ◌∷◌}
 use Rattle.refusals.specs.Rules.{same, both, first_of, ◌gives◌}
 use Rattle.dispenser_frame_rules.specs.Table.{pay_upper_code, pay_lower_code, pay_both_code}
-use Rattle.payout_command.specs.declared.Command.{Command}
-use Rattle.payout_command.specs.declared.Command.TheVariants.{Nothing, Send}
+use Rattle.payout_command.specs.Sent.{Command}
+use Rattle.payout_command.specs.Sent.{Nothing, Send}
 
 -- "Amount 0 is all zeros and is not sent"; the rules in order, the first that applies
 unfoldable pub command_for : ℕ → ℕ → Command

@@ -1,10 +1,10 @@
 -- What is promised of the command for a plan: the statements, proved in proofs/Sent.antt.
 use Rattle.std.specs.Prelude.{ℕ, ◌≡◌, true, List, ◌↔◌}
 use Rattle.payout.specs.Plan.{Right}
-use Rattle.payout.specs.declared.Plan.TheVariants.{Two}
+use Rattle.payout.specs.Planned.{Two}
 use Rattle.dispenser_frame_rules.specs.Command.{sendable}
 use Rattle.payout_command.specs.Command.{command_for}
-use Rattle.payout_command.specs.declared.Command.TheVariants.{Nothing, Send}
+use Rattle.payout_command.specs.Sent.{Nothing, Send}
 
 -- the command for a plan asks for the plan's counts and is one that `is_sendable` takes; and nothing is sent exactly where the amount is 0
 pub record Sent : Type 0 where

@@ -1,13 +1,13 @@
 -- What telling the fields comes to, from what the writer of answers did. Assumes nothing.
 use Prim.Native.Nat.{ℕ, ◌≤◌}
 use mathlib.Core.Path.{◌≡◌, refl, sym, ap, ◌∙◌}
-use mathlib.Core.Bool.{true, false, true≢false}
+use mathlib.Core.Bool.{true}
 use mathlib.Core.List.{List}
 use mathlib.Core.Logic.{inl, inr, ⊎_elim}
 use native.Mathlib.Omega.{arith}
 use lib.ListN.{length}
 use Rattle.refusals.specs.Put.{written, laid, refused as not-put}
-use Rattle.refusals.specs.declared.Put.TheVariants.{Bytes, Refused as NotPut}
+use Rattle.refusals.specs.Put.{Bytes, Refused as NotPut}
 use Rattle.refusals.specs.declared.Refusal.{Refusal}
 use Rattle.refusals.proofs.Rules.{by_cases, certain, first-judged, none-judged, first_or_none}
 use Rattle.refusals.proofs.Writing.{done-laid}
@@ -17,17 +17,10 @@ use Rattle.dispenser_frame_rules.proofs.Codes.{answer-most}
 use Rattle.pretend_rules.specs.Wire.{is_awaiting, sent}
 use Rattle.pretend_rules.specs.Device.{suits, bytes_put, send, step_after, stepped, refused_step, done_after, tell_refusals, tell_step}
 use Rattle.pretend_rules.specs.declared.wire.Wire.{Wire}
-use Rattle.refusals.specs.declared.Declined.TheVariants.{Range, Unawaited}
+use Rattle.refusals.specs.declared.Declined.TheVariants.{Range}
 use Rattle.pretend_rules.specs.declared.device.Happening.TheVariants.{Nothing}
 
 module _ (w : Wire) (code : ℕ) (a : Answer) (r : List ℕ) (long : 21 ≤ length r) where
-  pub tell-unawaited : is_awaiting w.stand ≡ false → step_after (refused_step w Unawaited) r ≡ tell_step w code a r
-  unfolding tell_step tell_refusals
-  tell-unawaited n =
-      let none : (is_awaiting w.stand ≡ true → ⊥) = λ h. true≢false (sym h ∙ n) in
-      sym (first-judged (λ why. step_after (refused_step w why) r) _ (tell_refusals w code a r) Unawaited
-      (inr ((λ h. omega arith), inr ((λ h. none h.0), inl (none, refl)))))
-
   module _ (waited : is_awaiting w.stand ≡ true) where
     pub tell-range : ((suits a code).holds → ⊥) → step_after (refused_step w Range) r ≡ tell_step w code a r
     unfolding tell_step tell_refusals

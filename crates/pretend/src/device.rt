@@ -1,13 +1,14 @@
 // The device: the wire and its account joined with the frames.
 ghost use Rattle.std.specs.Prelude.{◌≡◌, ◌<◌, length, set, take};
 ghost use Rattle.dispenser_frame_rules.specs.Command.{read_command};
-ghost use Rattle.pretend_rules.specs.Device.{stepped, refused_step, step_after, byte_after, after, handed, send, acted, judge_step, byte_step, tick_step, tell_step, code_after, code_by, answer_by, device_byte, device_tick, device_tell};
+ghost use Rattle.pretend_rules.specs.Device.{stepped, refused_step, step_after, byte_after, after, handed, send, acted, judge_step, byte_step, tick_step, tell_step, code_by, answer_by, device_byte, device_tick, device_tell};
 
 use crate::{tally, wire};
 use dispenser_frame::{code_of, read_command, write_answer};
-use dispenser_frame_rules::{Answer, CommandRead};
+use dispenser_frame_rules::{Answer, Command};
 use pretend_rules::{Act, Device, Happening, Heard, Outcome, Reply, Step, Wire};
-use refusals::{Declined, Put};
+use refusals::{Declined, Done};
+use xor_frame::Fault;
 
 // A step that is done: so many bytes put, and what came of it.
 fn done(wire: Wire, put: usize, what: Happening) -> Step
@@ -15,7 +16,7 @@ fn done(wire: Wire, put: usize, what: Happening) -> Step
 {
     Step {
         wire,
-        reply: Reply::Done { put, what },
+        reply: Ok(Done { put, closing: what }),
     }
 }
 
@@ -25,18 +26,16 @@ fn not_done(wire: Wire, why: Declined) -> Step
 {
     Step {
         wire,
-        reply: Reply::NotDone(why),
+        reply: Err(why),
     }
 }
 
 // Sends the answer's frame, and says how many bytes that put.
+#[tactic(auto, unfolding(pretend_rules::specs::Device::send))]
 fn send_answer(answer: Answer, room: &mut [u8]) -> usize
     ensures { handed result room.new ≡ send answer room.old }
 {
-    match write_answer(answer, room) {
-        Put::Bytes(n) => n,
-        Put::Refused(_) => 0,
-    }
+    write_answer(answer, room).unwrap_or(0)
 }
 
 // Keeps a byte at its place of the gathering store.
@@ -76,57 +75,55 @@ fn act_on(wire: Wire, act: Act, answer: Answer, room: &mut [u8]) -> Step
 }
 
 // What reading the gathered command finds; no more than the store holds.
-fn gathered_command(store: &[u8], span: usize) -> CommandRead
+fn gathered_command(store: &[u8], span: usize) -> Result<Command, Fault>
     ensures { result ≡ read_command (take span store.now) }
 {
-    if span <= store.len() {
-        return read_command(&store[..span]);
-    }
-    read_command(store)
+    read_command(&store[..span.min(store.len())])
 }
 
 // Judges the command, which is full: 06h, or 15h where it is bad or one too many.
+#[tactic(auto, using(refusals::proofs::Rules::tests), unfolding(pretend_rules::specs::Device::judge_step))]
 fn judge(wire: Wire, store: &[u8], room: &mut [u8]) -> Step
     requires { 0 < length room.old }
     ensures { step_after result room.new ≡ judge_step wire store.now room.old }
 {
     match gathered_command(store, wire.span) {
-        CommandRead::Read { code, upper, lower } => {
-            if wire.answered < Wire::COMMANDS {
-                send_byte(room, 0x06);
-                let next = wire::awaiting(wire.answered + 1);
-                return done(next, 1, Happening::Taken { code, upper, lower });
-            }
-            send_byte(room, 0x15);
-            let next = wire::idle(wire);
-            done(next, 1, Happening::Nothing)
+        Ok(command) if wire.answered < Wire::COMMANDS => {
+            send_byte(room, 0x06);
+            done(
+                wire::awaiting(wire.answered + 1),
+                1,
+                Happening::Taken {
+                    code: command.code,
+                    upper: command.upper,
+                    lower: command.lower,
+                },
+            )
         }
-        CommandRead::Refused(_) => {
+        _ => {
             send_byte(room, 0x15);
-            let next = wire::idle(wire);
-            done(next, 1, Happening::Nothing)
+            done(wire::idle(wire), 1, Happening::Nothing)
         }
     }
 }
 
 // A byte arrives.
+#[tactic(auto, using(refusals::proofs::Rules::tests), unfolding(pretend_rules::specs::Device::byte_step, pretend_rules::specs::Device::byte_refusals))]
 fn step_byte(wire: Wire, answer: Answer, store: &mut [u8; 10], b: u8, room: &mut [u8]) -> Step
     ensures { byte_after result store.new room.new ≡ byte_step wire answer store.old b room.old }
 {
     if room.len() < Device::ROOM {
         return not_done(wire, Declined::Room);
     }
-    let at = wire.gathered;
     let hearing = wire::heard(wire, b);
     let next = hearing.wire;
-    let heard = hearing.heard;
-    match heard {
+    match hearing.heard {
         Heard::Keep => {
-            keep(store, at, b);
+            keep(store, wire.gathered, b);
             done(next, 0, Happening::Nothing)
         }
         Heard::Judge => {
-            keep(store, at, b);
+            keep(store, wire.gathered, b);
             judge(next, store, room)
         }
         Heard::Do(act) => act_on(next, act, answer, room),
@@ -134,46 +131,38 @@ fn step_byte(wire: Wire, answer: Answer, store: &mut [u8; 10], b: u8, room: &mut
 }
 
 // So many milliseconds pass.
+#[tactic(auto, using(refusals::proofs::Rules::tests), unfolding(pretend_rules::specs::Device::tick_step, pretend_rules::specs::Device::tick_refusals))]
 fn step_tick(wire: Wire, answer: Answer, ms: u32, room: &mut [u8]) -> Step
     ensures { step_after result room.new ≡ tick_step wire answer ms room.old }
 {
     if room.len() < Device::ROOM {
         return not_done(wire, Declined::Room);
     }
-    if ms < 1 {
-        return not_done(wire, Declined::Tick);
-    }
-    if Device::TICK < ms {
+    if !(1..=Device::TICK).contains(&ms) {
         return not_done(wire, Declined::Tick);
     }
     let turn = wire::passed(wire, ms as u64);
-    let next = turn.wire;
-    let act = turn.act;
-    act_on(next, act, answer, room)
+    act_on(turn.wire, turn.act, answer, room)
 }
 
 // The caller tells the answer's fields, to a command with that code.
+#[tactic(auto, using(refusals::proofs::Rules::tests), unfolding(pretend_rules::specs::Device::tell_step, pretend_rules::specs::Device::tell_refusals))]
 fn step_tell(wire: Wire, code: u8, answer: Answer, room: &mut [u8]) -> Step
     ensures { step_after result room.new ≡ tell_step wire code answer room.old }
 {
     if room.len() < Device::ROOM {
         return not_done(wire, Declined::Room);
     }
-    if wire::is_awaiting(wire) {
-        if code_of(answer) == code {
-            match write_answer(answer, room) {
-                Put::Bytes(n) => {
-                    let next = wire::sent(wire, 1);
-                    return done(next, n, Happening::Nothing);
-                }
-                Put::Refused(_) => {
-                    return not_done(wire, Declined::Range);
-                }
-            }
-        }
+    if !wire::is_awaiting(wire) {
+        return not_done(wire, Declined::Unawaited);
+    }
+    if code_of(answer) != code {
         return not_done(wire, Declined::Range);
     }
-    not_done(wire, Declined::Unawaited)
+    match write_answer(answer, room) {
+        Ok(n) => done(wire::sent(wire, 1), n, Happening::Nothing),
+        Err(_) => not_done(wire, Declined::Range),
+    }
 }
 
 // The code of the command in hand, after what a byte answered.
@@ -181,22 +170,13 @@ fn code_by(code: u8, reply: Reply) -> u8
     ensures { result ≡ code_by code reply }
 {
     match reply {
-        Reply::NotDone(_) => code,
-        Reply::Done { put: _, what } => code_after(code, what),
-    }
-}
-
-fn code_after(code: u8, what: Happening) -> u8
-    ensures { result ≡ code_after code what }
-{
-    match what {
-        Happening::Nothing => code,
-        Happening::Taken {
-            code: new,
-            upper: _,
-            lower: _,
-        } => new,
-        Happening::Ended => code,
+        Ok(
+            Done {
+                closing: Happening::Taken { code: new, .. },
+                ..
+            },
+        ) => new,
+        _ => code,
     }
 }
 
@@ -205,82 +185,57 @@ fn answer_by(old: Answer, new: Answer, reply: Reply) -> Answer
     ensures { result ≡ answer_by old new reply }
 {
     match reply {
-        Reply::NotDone(_) => old,
-        Reply::Done { put: _, what: _ } => new,
+        Err(_) => old,
+        Ok(_) => new,
     }
 }
 
 // A byte from the host.
+#[tactic(auto, unfolding(pretend_rules::specs::Device::device_byte))]
 pub fn byte(device: Device, b: u8, room: &mut [u8]) -> Outcome
     ensures { after result room.new ≡ device_byte device b room.old }
 {
-    let wire = device.wire;
-    let code = device.code;
-    let answer = device.answer;
-    let tallies = device.tallies;
     let mut store = device.store;
-    let step = step_byte(wire, answer, &mut store, b, room);
-    let next = step.wire;
-    let reply = step.reply;
-    let new = code_by(code, reply);
+    let step = step_byte(device.wire, device.answer, &mut store, b, room);
     Outcome {
         device: Device {
-            wire: next,
-            code: new,
-            answer,
-            tallies,
+            wire: step.wire,
+            code: code_by(device.code, step.reply),
             store,
+            ..device
         },
-        reply,
+        reply: step.reply,
     }
 }
 
 // So many milliseconds pass.
+#[tactic(auto, unfolding(pretend_rules::specs::Device::device_tick))]
 pub fn tick(device: Device, ms: u32, room: &mut [u8]) -> Outcome
     ensures { after result room.new ≡ device_tick device ms room.old }
 {
-    let wire = device.wire;
-    let code = device.code;
-    let answer = device.answer;
-    let tallies = device.tallies;
-    let store = device.store;
-    let step = step_tick(wire, answer, ms, room);
-    let next = step.wire;
-    let reply = step.reply;
+    let step = step_tick(device.wire, device.answer, ms, room);
     Outcome {
         device: Device {
-            wire: next,
-            code,
-            answer,
-            tallies,
-            store,
+            wire: step.wire,
+            ..device
         },
-        reply,
+        reply: step.reply,
     }
 }
 
 // The caller tells the answer's fields: what was paid, rejected and so on. It is sent, and booked.
+#[tactic(auto, unfolding(pretend_rules::specs::Device::device_tell))]
 pub fn tell(device: Device, answer: Answer, room: &mut [u8]) -> Outcome
     ensures { after result room.new ≡ device_tell device answer room.old }
 {
-    let wire = device.wire;
-    let code = device.code;
-    let old = device.answer;
-    let tallies = device.tallies;
-    let store = device.store;
-    let step = step_tell(wire, code, answer, room);
-    let next = step.wire;
-    let reply = step.reply;
-    let kept = answer_by(old, answer, reply);
-    let books = tally::tallied(tallies, answer, reply);
+    let step = step_tell(device.wire, device.code, answer, room);
     Outcome {
         device: Device {
-            wire: next,
-            code,
-            answer: kept,
-            tallies: books,
-            store,
+            wire: step.wire,
+            answer: answer_by(device.answer, answer, step.reply),
+            tallies: tally::tallied(device.tallies, answer, step.reply),
+            ..device
         },
-        reply,
+        reply: step.reply,
     }
 }

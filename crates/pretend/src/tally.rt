@@ -8,26 +8,24 @@ use exchange::sums::plus;
 use pretend_rules::{Reply, Tallies, Tally};
 
 // e notes paid, r rejected.
+#[tactic(auto, unfolding(pretend_rules::specs::Tally::more))]
 fn more(was: Tally, e: u32, r: u32) -> Tally
     ensures { result ≡ more was e r }
 {
-    let paid = was.paid;
-    let rejected = was.rejected;
     Tally {
-        paid: plus(paid, e),
-        rejected: plus(rejected, r),
+        paid: plus(was.paid, e),
+        rejected: plus(was.rejected, r),
     }
 }
 
 // r notes rejected.
+#[tactic(auto, unfolding(pretend_rules::specs::Tally::rejected_more))]
 fn rejected_more(was: Tally, r: u32) -> Tally
     ensures { result ≡ rejected_more was r }
 {
-    let paid = was.paid;
-    let rejected = was.rejected;
     Tally {
-        paid,
-        rejected: plus(rejected, r),
+        rejected: plus(was.rejected, r),
+        ..was
     }
 }
 
@@ -35,17 +33,15 @@ fn rejected_more(was: Tally, r: u32) -> Tally
 fn paid_more(was: Tallies, cassette: Cassette, e: u32, r: u32) -> Tallies
     ensures { result ≡ paid_more was cassette e r }
 {
-    let upper = was.upper;
-    let lower = was.lower;
     match cassette {
-        Cassette::Upper => {
-            let now = more(upper, e, r);
-            Tallies { upper: now, lower }
-        }
-        Cassette::Lower => {
-            let now = more(lower, e, r);
-            Tallies { upper, lower: now }
-        }
+        Cassette::Upper => Tallies {
+            upper: more(was.upper, e, r),
+            ..was
+        },
+        Cassette::Lower => Tallies {
+            lower: more(was.lower, e, r),
+            ..was
+        },
     }
 }
 
@@ -53,17 +49,15 @@ fn paid_more(was: Tallies, cassette: Cassette, e: u32, r: u32) -> Tallies
 fn tested_more(was: Tallies, cassette: Cassette, r: u32) -> Tallies
     ensures { result ≡ tested_more was cassette r }
 {
-    let upper = was.upper;
-    let lower = was.lower;
     match cassette {
-        Cassette::Upper => {
-            let now = rejected_more(upper, r);
-            Tallies { upper: now, lower }
-        }
-        Cassette::Lower => {
-            let now = rejected_more(lower, r);
-            Tallies { upper, lower: now }
-        }
+        Cassette::Upper => Tallies {
+            upper: rejected_more(was.upper, r),
+            ..was
+        },
+        Cassette::Lower => Tallies {
+            lower: rejected_more(was.lower, r),
+            ..was
+        },
     }
 }
 
@@ -72,45 +66,28 @@ fn told(was: Tallies, answer: Answer) -> Tallies
     ensures { result ≡ told was answer }
 {
     match answer {
-        Answer::Purged { error: _ } => was,
+        Answer::Purged { .. } | Answer::Status { .. } => was,
         Answer::PaidOne {
             cassette,
-            chk: _,
             exit,
-            error: _,
-            state: _,
             rejects,
+            ..
         } => paid_more(was, cassette, exit, rejects),
         Answer::PaidBoth {
-            upper_chk: _,
             upper_exit,
-            lower_chk: _,
             lower_exit,
-            error: _,
-            upper_state: _,
-            lower_state: _,
             upper_rejects,
             lower_rejects,
-        } => {
-            let upper = was.upper;
-            let lower = was.lower;
-            Tallies {
-                upper: more(upper, upper_exit, upper_rejects),
-                lower: more(lower, lower_exit, lower_rejects),
-            }
-        }
+            ..
+        } => Tallies {
+            upper: more(was.upper, upper_exit, upper_rejects),
+            lower: more(was.lower, lower_exit, lower_rejects),
+        },
         Answer::Tested {
             cassette,
-            chk: _,
-            error: _,
-            state: _,
             rejects,
+            ..
         } => tested_more(was, cassette, rejects),
-        Answer::Status {
-            error: _,
-            sensor0: _,
-            sensor1: _,
-        } => was,
     }
 }
 
@@ -119,7 +96,7 @@ pub(crate) fn tallied(was: Tallies, answer: Answer, reply: Reply) -> Tallies
     ensures { result ≡ tallied_by was answer reply }
 {
     match reply {
-        Reply::NotDone(_) => was,
-        Reply::Done { put: _, what: _ } => told(was, answer),
+        Err(_) => was,
+        Ok(_) => told(was, answer),
     }
 }

@@ -14,26 +14,14 @@ const WITH_CODE: usize = 4;
 pub fn is_busy(was: Wire) -> bool
     ensures { result ≡ is_busy was.stand }
 {
-    let stand = was.stand;
-    match stand {
-        Stand::Idle => false,
-        Stand::Reading => true,
-        Stand::Awaiting => true,
-        Stand::Sent => true,
-    }
+    !matches!(was.stand, Stand::Idle)
 }
 
 // Are the answer's fields awaited?
 pub(crate) fn is_awaiting(was: Wire) -> bool
     ensures { result ≡ is_awaiting was.stand }
 {
-    let stand = was.stand;
-    match stand {
-        Stand::Idle => false,
-        Stand::Reading => false,
-        Stand::Awaiting => true,
-        Stand::Sent => false,
-    }
+    matches!(was.stand, Stand::Awaiting)
 }
 
 // Nothing begun.
@@ -41,12 +29,8 @@ pub(crate) fn idle(was: Wire) -> Wire
     ensures { result ≡ idle was }
 {
     Wire {
-        left: 0,
         answered: was.answered,
-        sendings: 0,
-        gathered: 0,
-        span: 0,
-        stand: Stand::Idle,
+        ..Wire::fresh()
     }
 }
 
@@ -56,11 +40,11 @@ fn reading(was: Wire, left: u64, gathered: usize, span: usize) -> Wire
 {
     Wire {
         left,
-        answered: was.answered,
         sendings: 0,
         gathered,
         span,
         stand: Stand::Reading,
+        ..was
     }
 }
 
@@ -69,12 +53,9 @@ pub(crate) fn awaiting(answered: u64) -> Wire
     ensures { result ≡ awaiting answered }
 {
     Wire {
-        left: 0,
         answered,
-        sendings: 0,
-        gathered: 0,
-        span: 0,
         stand: Stand::Awaiting,
+        ..Wire::fresh()
     }
 }
 
@@ -84,11 +65,11 @@ pub(crate) fn sent(was: Wire, sendings: u32) -> Wire
 {
     Wire {
         left: Wire::SILENCE,
-        answered: was.answered,
         sendings,
         gathered: 0,
         span: 0,
         stand: Stand::Sent,
+        ..was
     }
 }
 
@@ -96,189 +77,154 @@ pub(crate) fn sent(was: Wire, sendings: u32) -> Wire
 fn waits(was: Wire, left: u64) -> Wire
     ensures { result ≡ waits was left }
 {
-    let s = was.stand;
-    Wire {
-        left,
-        answered: was.answered,
-        sendings: was.sendings,
-        gathered: was.gathered,
-        span: was.span,
-        stand: s,
-    }
+    Wire { left, ..was }
 }
 
 // With nothing begun, bytes before 04h are skipped.
+#[tactic(auto, using(refusals::proofs::Rules::tests), unfolding(pretend_rules::specs::Wire::idle_byte))]
 fn idle_byte(was: Wire, b: u8) -> Hearing
     ensures { result ≡ idle_byte was b }
 {
     if b == 0x04 {
-        let wire = reading(was, Wire::FRAME, 1, WITH_CODE);
         return Hearing {
-            wire,
+            wire: reading(was, Wire::FRAME, 1, WITH_CODE),
             heard: Heard::Keep,
         };
     }
-    let wire = waits(was, was.left);
     Hearing {
-        wire,
+        wire: was,
         heard: Heard::Do(Act::Nothing),
     }
 }
 
 // A command's code, the so many-th byte: one that is not in the table gets 15h at once.
+#[tactic(auto, using(refusals::proofs::Rules::tests), unfolding(pretend_rules::specs::Wire::code_byte))]
 fn code_byte(was: Wire, gathered: usize, b: u8) -> Hearing
     ensures { result ≡ code_byte was gathered b }
 {
-    let n = command_length(b);
-    if n == 0 {
-        let wire = idle(was);
-        return Hearing {
-            wire,
+    match command_length(b) {
+        0 => Hearing {
+            wire: idle(was),
             heard: Heard::Do(Act::Nak),
-        };
-    }
-    let wire = reading(was, was.left, gathered, n);
-    Hearing {
-        wire,
-        heard: Heard::Keep,
+        },
+        n => Hearing {
+            wire: reading(was, was.left, gathered, n),
+            heard: Heard::Keep,
+        },
     }
 }
 
 // The last byte before the command is looked at: its code, or its check.
+#[tactic(auto, using(refusals::proofs::Rules::tests), unfolding(pretend_rules::specs::Wire::last_byte))]
 fn last_byte(was: Wire, b: u8) -> Hearing
     ensures { result ≡ last_byte was b }
 {
     if was.gathered == CODE {
         return code_byte(was, WITH_CODE, b);
     }
-    let wire = waits(was, was.left);
     Hearing {
-        wire,
+        wire: was,
         heard: Heard::Judge,
     }
 }
 
 // A byte of a command.
+#[tactic(auto, using(refusals::proofs::Rules::tests), unfolding(pretend_rules::specs::Wire::command_byte))]
 fn command_byte(was: Wire, b: u8) -> Hearing
     ensures { result ≡ command_byte was b }
 {
-    if was.gathered < was.span {
-        let n = was.gathered + 1;
-        if n < was.span {
-            let wire = reading(was, was.left, n, was.span);
-            return Hearing {
-                wire,
-                heard: Heard::Keep,
-            };
-        }
-        return last_byte(was, b);
+    if was.gathered < was.span && was.gathered + 1 < was.span {
+        return Hearing {
+            wire: reading(was, was.left, was.gathered + 1, was.span),
+            heard: Heard::Keep,
+        };
     }
     last_byte(was, b)
 }
 
 // 15h came, or nothing in time: the answer is sent again, or after the third sending it ends.
+#[tactic(auto, using(refusals::proofs::Rules::tests), unfolding(pretend_rules::specs::Wire::again))]
 fn again(was: Wire) -> Turn
     ensures { result ≡ again was }
 {
     if was.sendings < Wire::SENDINGS {
-        let wire = sent(was, was.sendings + 1);
         return Turn {
-            wire,
+            wire: sent(was, was.sendings + 1),
             act: Act::Again,
         };
     }
-    let wire = idle(was);
     Turn {
-        wire,
+        wire: idle(was),
         act: Act::Finish,
     }
 }
 
 // After a sending: 06h ends it, 15h asks for it again, every other byte is ignored.
+#[tactic(auto, using(refusals::proofs::Rules::tests), unfolding(pretend_rules::specs::Wire::answer_byte))]
 fn answer_byte(was: Wire, b: u8) -> Hearing
     ensures { result ≡ answer_byte was b }
 {
-    if b == 0x06 {
-        let wire = idle(was);
-        return Hearing {
-            wire,
+    match b {
+        0x06 => Hearing {
+            wire: idle(was),
             heard: Heard::Do(Act::Finish),
-        };
-    }
-    if b == 0x15 {
-        let turn = again(was);
-        let wire = turn.wire;
-        let act = turn.act;
-        return Hearing {
-            wire,
-            heard: Heard::Do(act),
-        };
-    }
-    let wire = waits(was, was.left);
-    Hearing {
-        wire,
-        heard: Heard::Do(Act::Nothing),
+        },
+        0x15 => {
+            let turn = again(was);
+            Hearing {
+                wire: turn.wire,
+                heard: Heard::Do(turn.act),
+            }
+        }
+        _ => Hearing {
+            wire: was,
+            heard: Heard::Do(Act::Nothing),
+        },
     }
 }
 
 // A byte arrives.
+#[tactic(auto, unfolding(pretend_rules::specs::Wire::heard))]
 pub(crate) fn heard(was: Wire, b: u8) -> Hearing
     ensures { result ≡ heard was b }
 {
-    let stand = was.stand;
-    match stand {
+    match was.stand {
         Stand::Idle => idle_byte(was, b),
         Stand::Reading => command_byte(was, b),
-        Stand::Awaiting => {
-            let wire = waits(was, was.left);
-            Hearing {
-                wire,
-                heard: Heard::Do(Act::Nothing),
-            }
-        }
+        Stand::Awaiting => Hearing {
+            wire: was,
+            heard: Heard::Do(Act::Nothing),
+        },
         Stand::Sent => answer_byte(was, b),
     }
 }
 
 // A wait has ended.
+#[tactic(auto, unfolding(pretend_rules::specs::Wire::expired))]
 fn expired(was: Wire) -> Turn
     ensures { result ≡ expired was }
 {
-    let stand = was.stand;
-    match stand {
-        Stand::Idle => {
-            let wire = waits(was, 0);
-            Turn {
-                wire,
-                act: Act::Nothing,
-            }
-        }
-        Stand::Reading => {
-            let wire = idle(was);
-            Turn {
-                wire,
-                act: Act::Nak,
-            }
-        }
-        Stand::Awaiting => {
-            let wire = waits(was, 0);
-            Turn {
-                wire,
-                act: Act::Nothing,
-            }
-        }
+    match was.stand {
+        Stand::Reading => Turn {
+            wire: idle(was),
+            act: Act::Nak,
+        },
+        Stand::Idle | Stand::Awaiting => Turn {
+            wire: waits(was, 0),
+            act: Act::Nothing,
+        },
         Stand::Sent => again(was),
     }
 }
 
 // So many milliseconds pass. A tick that ends a wait drops its excess.
+#[tactic(auto, using(refusals::proofs::Rules::tests), unfolding(pretend_rules::specs::Wire::passed))]
 pub(crate) fn passed(was: Wire, ms: u64) -> Turn
     ensures { result ≡ passed was ms }
 {
     if ms < was.left {
-        let wire = waits(was, was.left - ms);
         return Turn {
-            wire,
+            wire: waits(was, was.left - ms),
             act: Act::Nothing,
         };
     }

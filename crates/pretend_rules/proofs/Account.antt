@@ -1,5 +1,6 @@
 -- The device's account is of the notes that its caller said were paid or rejected, and never cut: no more is told than commands were taken, and what is taken is told by the
 -- history. Assumes nothing.
+use Rattle.std.specs.Prelude.{Ok}
 use Prim.Native.Nat.{ℕ, ◌+◌, ◌*◌, ◌≤◌, ◌<◌}
 use mathlib.Core.Path.{◌≡◌, refl, sym, ap, ◌∙◌, subst}
 use mathlib.Core.Bool.{true}
@@ -18,8 +19,8 @@ use Rattle.dispenser_frame_rules.specs.declared.answer.Cassette.{Cassette}
 use Rattle.dispenser_frame_rules.specs.declared.answer.Cassette.TheVariants.{Upper, Lower}
 use Rattle.dispenser_frame_rules.specs.declared.answer.Answer.{Answer}
 use Rattle.dispenser_frame_rules.specs.declared.answer.Answer.TheVariants.{Purged, PaidOne, PaidBoth, Tested, Status}
-use Rattle.dispenser_frame_rules.specs.declared.command.CommandRead.{CommandRead}
-use Rattle.dispenser_frame_rules.specs.declared.command.CommandRead.TheVariants.{Read, Refused as NotRead}
+use Rattle.dispenser_frame_rules.specs.CommandRead.{CommandRead}
+use Rattle.dispenser_frame_rules.specs.CommandRead.{Read, Refused as NotRead}
 use Rattle.ledger.specs.Events.{Event, hears, waits as passes, own, goes_on, closes, declined, done}
 use Rattle.ledger.specs.Waiting.{some, from, waited}
 use Rattle.ledger.specs.Calls.{Returned, gave, did, told as told_event, seen, run, history_from}
@@ -115,7 +116,7 @@ abbrev Spared : ℕ → Due → Type 0
 Spared n u = Spare n u.what
 
 full-spared : (n : ℕ) (y : CommandRead) → Spared n (due_full n y)
-full-spared n (Read code upper lower) = pick (Spared n) (under n answer_limit) _ _ (λ h. h) (λ m. tt)
+full-spared n (Ok command) = pick (Spared n) (under n answer_limit) _ _ (λ h. h) (λ m. tt)
 full-spared n (NotRead fault) = tt
 
 again-spared : (n k : ℕ) (a : Answer) → Spared n (due_again k a)

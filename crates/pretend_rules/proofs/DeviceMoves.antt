@@ -16,7 +16,7 @@ use Rattle.dispenser_frame_rules.specs.Table.{known, command_fields, command_len
 use Rattle.dispenser_frame_rules.specs.Command.{sendable, read_command}
 use Rattle.dispenser_frame_rules.specs.Answer.{answer_fits, answer_frame}
 use Rattle.dispenser_frame_rules.specs.declared.answer.Answer.{Answer}
-use Rattle.dispenser_frame_rules.specs.declared.command.CommandRead.{CommandRead}
+use Rattle.dispenser_frame_rules.specs.CommandRead.{CommandRead}
 use Rattle.dispenser_frame_rules.proofs.Codes.{command-longest}
 use Rattle.dispenser_frame_rules.proofs.Trips.{command-back, command-length}
 use Rattle.ledger.specs.Calls.{IsDone}

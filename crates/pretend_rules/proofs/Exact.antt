@@ -1,4 +1,5 @@
 -- The device answers each number exactly when its rules say, the lowest that applies, and a call that is declined leaves everything as it was. Assumes nothing.
+use Rattle.std.specs.Prelude.{Ok}
 use Prim.Native.Nat.{ℕ}
 use mathlib.Core.Path.{◌≡◌, refl}
 use mathlib.Core.Bool.{true}
@@ -8,8 +9,8 @@ use Rattle.refusals.specs.Rules.{under}
 use Rattle.refusals.proofs.Rules.{pick}
 use Rattle.dispenser_frame_rules.specs.Command.{read_command}
 use Rattle.dispenser_frame_rules.specs.declared.answer.Answer.{Answer}
-use Rattle.dispenser_frame_rules.specs.declared.command.CommandRead.{CommandRead}
-use Rattle.dispenser_frame_rules.specs.declared.command.CommandRead.TheVariants.{Read, Refused as NotRead}
+use Rattle.dispenser_frame_rules.specs.CommandRead.{CommandRead}
+use Rattle.dispenser_frame_rules.specs.CommandRead.{Read, Refused as NotRead}
 use Rattle.ledger.specs.Calls.{IsDone}
 use Rattle.ledger.proofs.Declining.{told-apart, rising, given-exactly}
 use Rattle.pretend_rules.specs.Limits.{answer_limit}
@@ -31,7 +32,7 @@ acted-told Again w a r = (_, (_, refl))
 acted-told Finish w a r = (_, (_, refl))
 
 judged-told : (x : CommandRead) (w : Wire) (r : List ℕ) → IsDone (returned (judged_step x w r).reply)
-judged-told (Read code upper lower) w r =
+judged-told (Ok command) w r =
     pick (λ (v : StepAfter). IsDone (returned v.reply)) (under w.answered answer_limit) _ _ (λ h. (_, (_, refl))) (λ n. (_, (_, refl)))
 judged-told (NotRead fault) w r = (_, (_, refl))
 

@@ -30,7 +30,7 @@ use Rattle.exchange_rules.proofs.Views.{one-put}
 use Rattle.dispenser_rules.specs.Account.{account_opened}
 use Rattle.error_codes.specs.declared.ErrorClass.{ErrorClass}
 use Rattle.dispenser_rules.specs.declared.session.Closing.TheVariants.{Nothing, Answered}
-use Rattle.dispenser_rules.specs.declared.session.Reply.TheVariants.{Done}
+use Rattle.dispenser_rules.specs.Reply.{Done}
 use Rattle.dispenser_rules.specs.Session.{After, account_asked, account_heard, hand_over, command, tick_refusals, request_refusals, clear_refusals, session_request, session_byte, session_tick, session_clear}
 use Rattle.dispenser_rules.specs.Calls.{returned}
 use Rattle.dispenser_rules.specs.Unit.{layout, unit, request_of}

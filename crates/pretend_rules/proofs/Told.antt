@@ -1,4 +1,5 @@
 -- The device stands where its history says, and answers, at every call, what is due by that history: what it puts, what it tells, and the numbers. Assumes nothing.
+use Rattle.std.specs.Prelude.{Ok}
 use Prim.Native.Nat.{ℕ, ◌+◌, ◌-◌, ◌≤◌, ◌<◌}
 use mathlib.Core.Path.{◌≡◌, refl, sym, ap, ◌∙◌, subst}
 use mathlib.Core.Bool.{true, false, cond, true≢false}
@@ -21,8 +22,8 @@ use Rattle.dispenser_frame_rules.specs.Table.{known, command_fields, command_len
 use Rattle.dispenser_frame_rules.specs.Command.{read_command}
 use Rattle.dispenser_frame_rules.specs.Answer.{answer_fits, answer_frame}
 use Rattle.dispenser_frame_rules.specs.declared.answer.Answer.{Answer}
-use Rattle.dispenser_frame_rules.specs.declared.command.CommandRead.{CommandRead}
-use Rattle.dispenser_frame_rules.specs.declared.command.CommandRead.TheVariants.{Read, Refused}
+use Rattle.dispenser_frame_rules.specs.CommandRead.{CommandRead}
+use Rattle.dispenser_frame_rules.specs.CommandRead.{Read, Refused}
 use Rattle.dispenser_frame_rules.proofs.Codes.{command-longest}
 use Rattle.dispenser_frame_rules.proofs.Trips.{answer-length}
 use Rattle.ledger.specs.Events.{Deed, hears, waits as passes, own, goes_on, closes, declined, done, is_frame}
@@ -44,7 +45,7 @@ use Rattle.pretend_rules.specs.declared.wire.Act.TheVariants.{Nothing as Rest, N
 use Rattle.pretend_rules.specs.declared.wire.Turn.{Turn}
 use Rattle.pretend_rules.specs.declared.wire.Hearing.{Hearing}
 use Rattle.pretend_rules.specs.declared.device.Happening.TheVariants.{Nothing, Taken, Ended}
-use Rattle.pretend_rules.specs.declared.device.Reply.TheVariants.{NotDone, Done}
+use Rattle.pretend_rules.specs.Reply.{NotDone, Done}
 use Rattle.pretend_rules.specs.declared.device.Device.{Device}
 use Rattle.pretend_rules.proofs.Exact.{exactly-when}
 use Rattle.pretend_rules.proofs.Sending.{sent-laid}
@@ -517,9 +518,9 @@ module _ (d : Device) (h : History) (t : Tracks d h) where
           (record { store = length-set d.store got b ∙ t.store; count = ap (λ (n : ℕ). n + 1) t.count; stands = refl }))
 
       full-hears : (y : CommandRead) → due_by h (hears b) ≡ due_full (answered h) y → Judged (judged_step y (waits d.wire d.wire.left) r)
-      full-hears (Read code upper lower) i =
+      full-hears (Ok command) i =
           pick Judged (under d.wire.answered answer_limit) _ _
-          (λ g. takes code upper lower (i ∙ cond-true _ _ (holds-true (under (answered h) answer_limit) (omega (arith, t.count, g)))))
+          (λ g. takes command.code command.upper command.lower (i ∙ cond-true _ _ (holds-true (under (answered h) answer_limit) (omega (arith, t.count, g)))))
           (λ n. naks stored (length-set d.store got b ∙ t.store) x.where-at
           (i ∙ cond-false _ _ (fails-false (under (answered h) answer_limit) (λ g. n (omega (arith, t.count, g))))))
       full-hears (Refused fault) i = naks stored (length-set d.store got b ∙ t.store) x.where-at i

@@ -1,14 +1,14 @@
 -- Any calls at all on the device, as its caller sees them. The device after calls, and their history, are those of every line (`ledger`): the device is asked for nothing
 -- by a request, and the call of its own is the telling.
-use Rattle.std.specs.Prelude.{ℕ, List, []}
+use Rattle.std.specs.Prelude.{ℕ, List, [], Ok}
 use Rattle.ledger.specs.Events.{Deed, hears, waits, own, Left, goes_on, closes, History as HistoryOf}
 use Rattle.ledger.specs.Calls.{Returned, gave, did, Host, history_from}
 use Rattle.dispenser_frame_rules.specs.declared.answer.Answer.{Answer}
 use Rattle.pretend_rules.specs.Device.{After, fresh_device, device_byte, device_tick, device_tell}
 use Rattle.pretend_rules.specs.declared.device.Happening.{Happening}
 use Rattle.pretend_rules.specs.declared.device.Happening.TheVariants.{Nothing, Taken, Ended}
-use Rattle.pretend_rules.specs.declared.device.Reply.{Reply}
-use Rattle.pretend_rules.specs.declared.device.Reply.TheVariants.{NotDone, Done}
+use Rattle.pretend_rules.specs.Reply.{Reply}
+use Rattle.pretend_rules.specs.Reply.{NotDone, Done}
 use Rattle.pretend_rules.specs.declared.device.Device.{Device}
 
 -- a call, with any arguments and any room
@@ -36,7 +36,7 @@ deed (tell a r) = own a
 -- what a call returned
 abbrev pub returned : Reply → Returned Happening
 returned (NotDone why) = gave why
-returned (Done n what) = did n what
+returned (Ok effect) = did effect.put effect.closing
 
 -- what a call closed: the reading of a command, which was taken; or the exchange
 pub data Close : Type 0 where

@@ -1,16 +1,16 @@
 -- The device, call by call (02, Q-14).
-use Rattle.std.specs.Prelude.{ℕ, ◌+◌, cond, List, [], ◌∷◌, ltb, length, take, set, replicate}
+use Rattle.std.specs.Prelude.{ℕ, ◌+◌, cond, List, [], ◌∷◌, ltb, length, take, set, replicate, Ok}
 use Rattle.refusals.specs.Rules.{Condition, Rule, says, under, within, same, both, isnt, judged, ◌gives◌}
-use Rattle.refusals.specs.declared.Put.{Put}
-use Rattle.refusals.specs.declared.Put.TheVariants.{Bytes, Refused as NotPut}
+use Rattle.refusals.specs.Put.{Put}
+use Rattle.refusals.specs.Put.{Bytes, Refused as NotPut}
 use Rattle.refusals.specs.declared.Declined.{Declined}
 use Rattle.refusals.specs.declared.Declined.TheVariants.{Room, Range, Tick, Unawaited}
 use Rattle.dispenser_frame_rules.specs.Command.{read_command}
 use Rattle.dispenser_frame_rules.specs.Answer.{answer_code, answer_fits, write_answer}
 use Rattle.dispenser_frame_rules.specs.declared.answer.Answer.{Answer}
 use Rattle.dispenser_frame_rules.specs.declared.answer.Answer.TheVariants.{Purged}
-use Rattle.dispenser_frame_rules.specs.declared.command.CommandRead.{CommandRead}
-use Rattle.dispenser_frame_rules.specs.declared.command.CommandRead.TheVariants.{Read, Refused as NotRead}
+use Rattle.dispenser_frame_rules.specs.CommandRead.{CommandRead}
+use Rattle.dispenser_frame_rules.specs.CommandRead.{Read, Refused as NotRead}
 use Rattle.ledger.specs.Calls.{After as AfterCall}
 use Rattle.pretend_rules.specs.Limits.{least_room, longest_tick, answer_limit}
 use Rattle.pretend_rules.specs.Wire.{fresh_wire, is_awaiting, idle, awaiting, sent, heard, passed}
@@ -23,8 +23,8 @@ use Rattle.pretend_rules.specs.declared.wire.Heard.TheVariants.{Keep, Judge, Do}
 use Rattle.pretend_rules.specs.declared.tally.Tallies.{Tallies}
 use Rattle.pretend_rules.specs.declared.device.Happening.{Happening}
 use Rattle.pretend_rules.specs.declared.device.Happening.TheVariants.{Nothing, Taken, Ended}
-use Rattle.pretend_rules.specs.declared.device.Reply.{Reply}
-use Rattle.pretend_rules.specs.declared.device.Reply.TheVariants.{NotDone, Done}
+use Rattle.pretend_rules.specs.Reply.{Reply}
+use Rattle.pretend_rules.specs.Reply.{NotDone, Done}
 use Rattle.pretend_rules.specs.declared.device.Step.{Step}
 use Rattle.pretend_rules.specs.declared.device.Device.{Device}
 use Rattle.pretend_rules.specs.declared.device.Outcome.{Outcome}
@@ -93,8 +93,8 @@ acted Finish w a r = done_after w 0 Ended r
 
 -- a full command: "answers 06h or 15h"; "After 1,000,000 commands answered 06h, each further one gets 15h"
 abbrev pub judged_step : CommandRead → Wire → List ℕ → StepAfter
-judged_step (Read code upper lower) w r =
-    cond (ltb w.answered answer_limit) (done_after (awaiting (w.answered + 1)) 1 (Taken code upper lower) (set r 0 0x06))
+judged_step (Ok command) w r =
+    cond (ltb w.answered answer_limit) (done_after (awaiting (w.answered + 1)) 1 (Taken command.code command.upper command.lower) (set r 0 0x06))
     (done_after (idle w) 1 Nothing (set r 0 0x15))
 judged_step (NotRead fault) w r = done_after (idle w) 1 Nothing (set r 0 0x15)
 
@@ -156,16 +156,16 @@ code_after code Ended = code
 
 abbrev pub code_by : ℕ → Reply → ℕ
 code_by code (NotDone why) = code
-code_by code (Done n what) = code_after code what
+code_by code (Ok effect) = code_after code effect.closing
 
 -- the answer in hand, and the account, after what a telling answered: it is booked once, when it is accepted
 abbrev pub answer_by : Answer → Answer → Reply → Answer
 answer_by old new (NotDone why) = old
-answer_by old new (Done n what) = new
+answer_by old new (Ok effect) = new
 
 abbrev pub tallied_by : Tallies → Answer → Reply → Tallies
 tallied_by t a (NotDone why) = t
-tallied_by t a (Done n what) = told t a
+tallied_by t a (Ok effect) = told t a
 
 unfoldable pub fresh_device : Device
 fresh_device = record { wire = fresh_wire; code = 0; answer = Purged 0; tallies = fresh_tallies; store = replicate 10 0 }

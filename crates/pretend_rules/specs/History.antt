@@ -1,7 +1,7 @@
 -- What is promised of the device after any calls at all from a fresh one, told from their history: its own account, what every accepted call puts and what came of
 -- it, and the numbers 1, 2, 6 and 9. What a history gives is read off the calls, what they returned and the bytes accepted. Nothing of that names a stand, a store or an
 -- account. Proved in proofs/Account.antt and proofs/Told.antt.
-use Rattle.std.specs.Prelude.{ℕ, ◌+◌, ◌≡◌, Bool, true, false, cond, not, ◌&&◌, ◌||◌, List, [], ◌∷◌, ◌++◌, ltb, eqb, length, get_or}
+use Rattle.std.specs.Prelude.{ℕ, ◌+◌, ◌≡◌, Bool, true, false, cond, not, ◌&&◌, ◌||◌, List, [], ◌∷◌, ◌++◌, ltb, eqb, length, get_or, Ok}
 use Rattle.refusals.specs.Rules.{Condition, Rule, never, says, under, within, isnt, ◌gives◌}
 use Rattle.refusals.specs.Put.{over}
 use Rattle.refusals.specs.declared.Declined.{Declined}
@@ -13,8 +13,8 @@ use Rattle.dispenser_frame_rules.specs.declared.answer.Cassette.{Cassette}
 use Rattle.dispenser_frame_rules.specs.declared.answer.Cassette.TheVariants.{Upper, Lower}
 use Rattle.dispenser_frame_rules.specs.declared.answer.Answer.{Answer}
 use Rattle.dispenser_frame_rules.specs.declared.answer.Answer.TheVariants.{Purged, PaidOne, PaidBoth, Tested, Status}
-use Rattle.dispenser_frame_rules.specs.declared.command.CommandRead.{CommandRead}
-use Rattle.dispenser_frame_rules.specs.declared.command.CommandRead.TheVariants.{Read, Refused}
+use Rattle.dispenser_frame_rules.specs.CommandRead.{CommandRead}
+use Rattle.dispenser_frame_rules.specs.CommandRead.{Read, Refused}
 use Rattle.ledger.specs.Events.{Deed, asks, hears, waits, own, Left, goes_on, closes, declined, done, taken}
 use Rattle.ledger.specs.Account.{counted}
 use Rattle.ledger.specs.Waiting.{some, from, waited}
@@ -164,7 +164,7 @@ nak = due (0x15 ∷ []) Nothing
 
 -- a full command, n having been answered 06h: "answers 06h or 15h"; "After 1,000,000 commands answered 06h, each further one gets 15h"
 abbrev pub due_full : ℕ → CommandRead → Due
-due_full n (Read code upper lower) = cond (ltb n answer_limit) (due (0x06 ∷ []) (Taken code upper lower)) nak
+due_full n (Ok command) = cond (ltb n answer_limit) (due (0x06 ∷ []) (Taken command.code command.upper command.lower)) nak
 due_full n (Refused fault) = nak
 
 -- "reads command frames a byte at a time .. bad (an unknown code at once) gets 15h": f is what has come of one

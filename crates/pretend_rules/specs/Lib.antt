@@ -10,3 +10,4 @@ pub mod Bench
 pub mod Histories
 pub mod Worked
 pub mod Stray
+pub mod Reply

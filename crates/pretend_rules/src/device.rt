@@ -5,7 +5,6 @@ ghost use Rattle.pretend_rules.specs.Device.{fresh_device};
 use crate::tally::Tallies;
 use crate::wire::Wire;
 use dispenser_frame_rules::Answer;
-use refusals::Declined;
 
 // What came of a call, beside the bytes that it put.
 #[derive(Clone, Copy)]
@@ -18,11 +17,7 @@ pub enum Happening {
 }
 
 // What a call answers: why it was declined, or how many bytes it put at the room's start and what came of it.
-#[derive(Clone, Copy)]
-pub enum Reply {
-    NotDone(Declined),
-    Done { put: usize, what: Happening },
-}
+pub type Reply = refusals::Reply<Happening>;
 
 // What a byte, a tick or a telling leaves.
 #[derive(Clone, Copy)]

@@ -7,23 +7,19 @@
 #![tactic(auto)]
 
 use pretend_rules::Device;
-use sheet_device::way;
+use sheet_device::Way;
 use std::io;
 use std::io::{Read, Write};
 
 // The longest line is that of a payout from both cassettes. As a word of a run it has the letter of its end before it.
 const LINE: usize = 64;
 
-// More turns than there can be bytes.
-const TURNS: u64 = 18_446_744_073_709_551_615;
-
-// The device, the line that is begun, and whether there is more to read.
+// The device, and the line that is begun.
 #[derive(Clone, Copy)]
 struct Unit {
     device: Device,
     line: [u8; LINE],
     size: usize,
-    going: bool,
 }
 
 fn main(rt: HostRuntime) -> io::Result<()> {
@@ -33,64 +29,53 @@ fn main(rt: HostRuntime) -> io::Result<()> {
         device: Device::fresh(),
         line: [b'd'; LINE],
         size: 1,
-        going: true,
     };
-    let mut turns: u64 = TURNS;
-    while 0 < turns {
-        let next = turn(&mut input, &mut out, now)?;
-        now = next;
-        if !now.going {
-            return Ok(());
+    for _ in 0..u64::MAX {
+        match turn(&mut input, &mut out, now)? {
+            Some(next) => now = next,
+            None => break,
         }
-        turns -= 1;
     }
     Ok(())
 }
 
-// One byte of a line.
-fn turn<R: Read, W: Write>(input: &mut R, out: &mut W, unit: Unit) -> io::Result<Unit> {
+// One byte of a line; none where the input has ended.
+fn turn<R: Read, W: Write>(input: &mut R, out: &mut W, unit: Unit) -> io::Result<Option<Unit>> {
     let mut read = [0u8; 1];
-    let n = input.read(&mut read)?;
-    if n == 0 {
-        let mut now = unit;
-        now.going = false;
-        return Ok(now);
+    if input.read(&mut read)? == 0 {
+        return Ok(None);
     }
-    let b = read[0];
-    if b == b'\n' {
-        return said(out, unit);
+    match read[0] {
+        b'\n' => Ok(Some(said(out, unit)?)),
+        b => Ok(Some(kept(unit, b))),
     }
-    Ok(kept(unit, b))
 }
 
 // A byte behind those before it; a line that is too long is cut.
 fn kept(unit: Unit, b: u8) -> Unit {
     let mut now = unit;
-    let at = unit.size;
-    if at < LINE {
-        now.line[at] = b;
-        now.size = at + 1;
+    if now.size < LINE {
+        now.line[now.size] = b;
+        now.size += 1;
     }
     now
 }
 
 // A line is whole: the device makes of it what it makes of a word of a run.
 fn said<W: Write>(out: &mut W, unit: Unit) -> io::Result<Unit> {
-    let device = unit.device;
-    let line = unit.line;
-    let next = event(out, device, &line, unit.size)?;
+    let device = event(out, unit.device, &unit.line, unit.size)?;
     sheet::print_text(out, b"done\n")?;
-    let mut now = unit;
-    now.device = next;
-    now.size = 1;
-    Ok(now)
+    Ok(Unit {
+        device,
+        size: 1,
+        ..unit
+    })
 }
 
 // Nothing is on its way to the device, and what it puts is printed.
 fn event<W: Write>(out: &mut W, device: Device, line: &[u8], size: usize) -> io::Result<Device> {
     let n = sheet::at_most(size, line);
-    let mut down = [0usize; way::LENGTH];
-    let mut up = [0usize; way::LENGTH];
-    up[way::ROOM] = Device::ROOM;
-    sheet_device::moved(out, &line[0..n], device, &mut down, &mut up)
+    let mut down = Way::fresh(0);
+    let mut up = Way::fresh(Device::ROOM);
+    sheet_device::moved(out, &line[..n], device, &mut down, &mut up)
 }

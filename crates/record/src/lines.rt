@@ -1,39 +1,33 @@
 // The records of a line, written to standard output.
 use recording::Record;
-use refusals::Put;
-use spelling::{Spelled, is_sentence};
+use spelling::{Unclear, is_sentence};
 use std::io::Write;
 use text::{Said, hear};
 
-// What a line leaves: the text goes on, or it has ended, or the line is not understood. It ends as well where a write fails: what follows would stand in the recording with a gap before it.
+// Why the text does not go on behind a line: it has ended, or the line is not understood. It ends as well where a write fails: what follows would stand in the recording with a gap before it.
 #[derive(Clone, Copy)]
-pub(crate) enum Course {
-    On,
+pub(crate) enum Stop {
     Ended,
     Unclear,
 }
 
-impl Course {
-    pub(crate) fn goes_on(self) -> bool {
-        match self {
-            Course::On => true,
-            _ => false,
-        }
+impl From<Unclear> for Stop {
+    fn from(_: Unclear) -> Stop {
+        Stop::Unclear
     }
 }
 
 // The records of a line. The text ends at the requests, at the report and behind a fault.
-pub(crate) fn record(rt: HostRuntime, line: &[u8]) -> Course {
+pub(crate) fn record(rt: HostRuntime, line: &[u8]) -> Result<(), Stop> {
     if is_sentence(line, Said::REQUESTS) {
-        return Course::Ended;
+        return Err(Stop::Ended);
     }
     if is_sentence(line, Said::REPORT) {
-        return Course::Ended;
+        return Err(Stop::Ended);
     }
-    let bad = hear(line, 0, Said::BAD);
-    if bad.is {
+    if let Some(bad) = hear(line, 0, Said::BAD) {
         fault(rt, line, bad.end);
-        return Course::Ended;
+        return Err(Stop::Ended);
     }
     records(rt, line)
 }
@@ -42,10 +36,9 @@ pub(crate) fn record(rt: HostRuntime, line: &[u8]) -> Course {
 fn fault(rt: HostRuntime, line: &[u8], from: usize) {
     let mut at = from;
     for _ in 0..line.len() {
-        let heard = hear(line, at, Said::BYTE);
-        if !heard.is {
+        let Some(heard) = hear(line, at, Said::BYTE) else {
             return;
-        }
+        };
         let values = heard.values;
         if !print(rt, &[(values[0] % 256) as u8], 1) {
             return;
@@ -55,51 +48,37 @@ fn fault(rt: HostRuntime, line: &[u8], from: usize) {
 }
 
 // Every record of a line: not more than it has bytes.
-fn records(rt: HostRuntime, line: &[u8]) -> Course {
-    let mut spelled = spelling::first(line);
+fn records(rt: HostRuntime, line: &[u8]) -> Result<(), Stop> {
+    let mut spelled = spelling::first(line)?;
     for _ in 0..line.len() {
-        match spelled {
-            Spelled::Says { record, times, end } => {
-                let course = repeated(rt, record, times);
-                if !course.goes_on() {
-                    return course;
-                }
-                let following = spelling::next(line, record, end);
-                spelled = following;
-            }
-            Spelled::Nothing => {
-                return Course::On;
-            }
-            Spelled::Unclear => {
-                return Course::Unclear;
-            }
-        }
+        let Some(said) = spelled else {
+            return Ok(());
+        };
+        repeated(rt, said.record, said.times)?;
+        spelled = spelling::next(line, said.record, said.end)?;
     }
-    Course::On
+    Ok(())
 }
 
 // A record, so many times.
-fn repeated(rt: HostRuntime, x: Record, times: u32) -> Course {
+fn repeated(rt: HostRuntime, x: Record, times: u32) -> Result<(), Stop> {
     for _ in 0..times {
-        let course = written(rt, x);
-        if !course.goes_on() {
-            return course;
-        }
+        written(rt, x)?;
     }
-    Course::On
+    Ok(())
 }
 
 // A record's bytes; a code that is not in its kind's list is none.
-fn written(rt: HostRuntime, x: Record) -> Course {
+fn written(rt: HostRuntime, x: Record) -> Result<(), Stop> {
     let mut room = [0u8; 16];
     match record_writer::write(x, &mut room) {
-        Put::Bytes(n) => {
+        Ok(n) => {
             if print(rt, &room, n) {
-                return Course::On;
+                return Ok(());
             }
-            Course::Ended
+            Err(Stop::Ended)
         }
-        Put::Refused(_) => Course::Unclear,
+        Err(_) => Err(Stop::Unclear),
     }
 }
 

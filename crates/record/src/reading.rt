@@ -1,19 +1,18 @@
 // A text, read byte by byte and taken line by line.
 use crate::lines;
-use crate::lines::Course;
+use crate::lines::Stop;
 use std::io;
 use std::io::Read;
 
 // No line is longer, without what stands behind | or #.
 pub(crate) const LINE: usize = 8_192;
 
-// How many bytes of the line are held, whether the rest of it is passed over, how many lines stand before it, and whether the text goes on.
+// How many bytes of the line are held, whether the rest of it is passed over, and how many lines stand before it.
 #[derive(Clone, Copy)]
 struct Reading {
     held: usize,
     passing: bool,
     before: u64,
-    course: Course,
 }
 
 fn fresh() -> Reading {
@@ -21,7 +20,6 @@ fn fresh() -> Reading {
         held: 0,
         passing: false,
         before: 0,
-        course: Course::On,
     }
 }
 
@@ -39,46 +37,36 @@ pub(crate) fn read<R: Read>(
             ended(rt, reading, line);
             return Ok(());
         }
-        let next = through(rt, reading, &piece[0..n], line);
-        reading = next;
-        if !goes_on(reading) {
+        let Some(next) = through(rt, reading, &piece[0..n], line) else {
             return Ok(());
-        }
+        };
+        reading = next;
     }
     Ok(())
 }
 
-fn goes_on(reading: Reading) -> bool {
-    let course = reading.course;
-    course.goes_on()
-}
-
-// Every byte of a piece, as far as the text goes on.
-fn through(rt: HostRuntime, reading: Reading, piece: &[u8], line: &mut [u8]) -> Reading {
+// Every byte of a piece; None where the text does not go on.
+fn through(rt: HostRuntime, reading: Reading, piece: &[u8], line: &mut [u8]) -> Option<Reading> {
     let mut next = reading;
     for b in piece {
-        let following = byte(rt, next, *b, line);
-        next = following;
-        if !goes_on(next) {
-            return next;
-        }
+        next = byte(rt, next, *b, line)?;
     }
-    next
+    Some(next)
 }
 
 // One byte: of the line, or behind its words, or its end.
-fn byte(rt: HostRuntime, reading: Reading, b: u8, line: &mut [u8]) -> Reading {
+fn byte(rt: HostRuntime, reading: Reading, b: u8, line: &mut [u8]) -> Option<Reading> {
     if b == b'\n' {
         return taken(rt, reading, line);
     }
     if reading.passing {
-        return reading;
+        return Some(reading);
     }
     if b == b'|' {
-        return passed_over(reading);
+        return Some(passed_over(reading));
     }
     if b == b'#' {
-        return passed_over(reading);
+        return Some(passed_over(reading));
     }
     held(rt, reading, b, line)
 }
@@ -89,40 +77,42 @@ fn passed_over(reading: Reading) -> Reading {
         held: reading.held,
         passing: true,
         before: reading.before,
-        course: Course::On,
     }
 }
 
 // One byte more of the line, if it can be held.
-fn held(rt: HostRuntime, reading: Reading, b: u8, line: &mut [u8]) -> Reading {
+fn held(rt: HostRuntime, reading: Reading, b: u8, line: &mut [u8]) -> Option<Reading> {
     let at = reading.held;
     if at < line.len() {
         line[at] = b;
-        return Reading {
+        return Some(Reading {
             held: at + 1,
             passing: false,
             before: reading.before,
-            course: Course::On,
-        };
+        });
     }
-    unclear(rt, reading.before)
+    unclear(rt, reading.before);
+    None
 }
 
 // The line that was read.
-fn taken(rt: HostRuntime, reading: Reading, line: &mut [u8]) -> Reading {
+fn taken(rt: HostRuntime, reading: Reading, line: &mut [u8]) -> Option<Reading> {
     let n = reading.held;
     if line.len() < n {
-        return unclear(rt, reading.before);
+        unclear(rt, reading.before);
+        return None;
     }
-    let course = lines::record(rt, &line[0..n]);
-    match course {
-        Course::Unclear => unclear(rt, reading.before),
-        _ => Reading {
+    match lines::record(rt, &line[0..n]) {
+        Ok(()) => Some(Reading {
             held: 0,
             passing: false,
             before: one_more(reading.before),
-            course,
-        },
+        }),
+        Err(Stop::Ended) => None,
+        Err(Stop::Unclear) => {
+            unclear(rt, reading.before);
+            None
+        }
     }
 }
 
@@ -134,15 +124,9 @@ fn one_more(n: u64) -> u64 {
 }
 
 // A line that is not understood, by its number: so many stand before it.
-fn unclear(rt: HostRuntime, before: u64) -> Reading {
+fn unclear(rt: HostRuntime, before: u64) {
     let number = one_more(before);
     let _ = eprintln!(rt; "line {number} is not understood");
-    Reading {
-        held: 0,
-        passing: false,
-        before,
-        course: Course::Unclear,
-    }
 }
 
 // The text ends: its last line may lack its end.

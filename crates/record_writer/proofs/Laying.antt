@@ -6,8 +6,8 @@ use native.Mathlib.Omega.{arith}
 use lib.ListN.{length, take, drop, length-append, length-drop, drop_of_length-le}
 use lib.Seq.{drop-drop, drop-append_seam, take-append_seam, take_all}
 use Rattle.refusals.specs.Put.{written, over, writing}
-use Rattle.refusals.specs.declared.Put.{Put}
-use Rattle.refusals.specs.declared.Put.TheVariants.{Bytes}
+use Rattle.refusals.specs.Put.{Put}
+use Rattle.refusals.specs.Put.{Bytes}
 use Rattle.refusals.proofs.Writing.{writing-exactly}
 use Rattle.numbers.specs.Seven.{groups}
 use Rattle.numbers.proofs.Groups.{groups-small, groups-large}

@@ -3,7 +3,7 @@
 use Prim.Native.Nat.{ℕ}
 use mathlib.Core.Path.{ap}
 use mathlib.Core.List.{List}
-use Rattle.refusals.specs.declared.Put.{Put}
+use Rattle.refusals.specs.Put.{Put}
 use Rattle.refusals.proofs.Tied.{Tied, tied}
 use Rattle.record_writer.proofs.length_of.Kinds as length-of
 use Rattle.record_writer.proofs.length_of.Reads as length-of-reads

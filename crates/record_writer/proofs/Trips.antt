@@ -8,8 +8,8 @@ use lib.ListN.{length, take, drop, length-append, length-drop, take-append-drop}
 use lib.Seq.{drop-drop, drop-append_seam}
 use Rattle.refusals.specs.Rules.{at_most}
 use Rattle.refusals.specs.Put.{Written, written, over, laid as laid_over}
-use Rattle.refusals.specs.declared.Put.{Put}
-use Rattle.refusals.specs.declared.Put.TheVariants.{Bytes, Refused}
+use Rattle.refusals.specs.Put.{Put}
+use Rattle.refusals.specs.Put.{Bytes, Refused}
 use Rattle.refusals.proofs.Rules.{certain, holds-true}
 use Rattle.refusals.proofs.Writing.{done-laid, take-over, writes}
 use Rattle.recording.specs.Record.{numbers_of, AllBelow, record_bytes, InRange, laid, AllInRange}

@@ -6,7 +6,7 @@ use mathlib.Core.List.{List}
 use lib.ListN.{length}
 use borrow.Author.Tests.{lt-ltb, le-ltb}
 use Rattle.refusals.specs.Put.{written, refused, over}
-use Rattle.refusals.specs.declared.Put.TheVariants.{Bytes}
+use Rattle.refusals.specs.Put.{Bytes}
 use Rattle.refusals.specs.declared.Refusal.TheVariants.{Room, Range}
 use Rattle.recording.specs.Record.{record_bytes}
 use Rattle.recording.specs.declared.Record.{Record}

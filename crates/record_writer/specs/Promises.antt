@@ -3,14 +3,14 @@ use Rattle.std.specs.Prelude.{ℕ, ◌+◌, ◌≤◌, ◌≡◌, List, [], ◌�
 use Rattle.refusals.specs.Rules.{Exactly, numbered}
 use Rattle.refusals.specs.Numbers.{refusal_number}
 use Rattle.refusals.specs.Put.{Written, written, refused, laid as laid_over}
-use Rattle.refusals.specs.declared.Put.{Put}
-use Rattle.refusals.specs.declared.Put.TheVariants.{Bytes, Refused}
+use Rattle.refusals.specs.Put.{Put}
+use Rattle.refusals.specs.Put.{Bytes, Refused}
 use Rattle.numbers.specs.Promises.{AllBytes}
 use Rattle.recording.specs.Record.{numbers_of, AllBelow, record_bytes}
 use Rattle.recording.specs.Reading.{records, fresh_reader, also, reading_from, read_recording}
 use Rattle.recording.specs.Taking.{found_at}
 use Rattle.recording.specs.declared.Record.{Record}
-use Rattle.recording.specs.declared.taking.NextRecord.TheVariants.{Whole}
+use Rattle.recording.specs.NextRecord.{Whole}
 use Rattle.record_writer.specs.Writing.{record_refusals, write_record}
 
 -- "reading what it wrote gives the same records": its n bytes are read as that record, whatever follows them, and so is the room. Every number of a record that code can give

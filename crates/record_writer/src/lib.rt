@@ -73,8 +73,8 @@ fn lay_number(n: u32, at: usize, room: &mut [u8]) -> usize
     ensures bytes { room.new ≡ take at room.old ++ over (groups n) (drop at room.old) }
 {
     match write_groups(n, &mut room[at..]) {
-        Put::Bytes(k) => at + k,
-        Put::Refused(_) => at,
+        Ok(k) => at + k,
+        Err(_) => at,
     }
 }
 
@@ -116,11 +116,10 @@ pub fn write(x: Record, room: &mut [u8]) -> Put
     ensures { written result room.new ≡ write_record x room.old }
 {
     if room.len() < length_of(x) {
-        return Put::Refused(Refusal::Room);
+        return Err(Refusal::Room);
     }
     if is_taken(x) {
-        let n = lay(x, room);
-        return Put::Bytes(n);
+        return Ok(lay(x, room));
     }
-    Put::Refused(Refusal::Range)
+    Err(Refusal::Range)
 }

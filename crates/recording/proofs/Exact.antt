@@ -17,8 +17,8 @@ use Rattle.recording.specs.declared.Fault.{Fault}
 use Rattle.recording.specs.declared.Fault.TheVariants.{BadNumber, Cut, Unknown, Long}
 use Rattle.recording.specs.declared.Record.{Record}
 use Rattle.recording.specs.declared.Step.{Step}
-use Rattle.recording.specs.declared.taking.NextRecord.{NextRecord}
-use Rattle.recording.specs.declared.taking.NextRecord.TheVariants.{Whole, Bad}
+use Rattle.recording.specs.NextRecord.{NextRecord}
+use Rattle.recording.specs.NextRecord.{Whole, Bad}
 use Rattle.recording.proofs.Folds.{reading-nil, reading-cons, reading-short}
 use Rattle.recording.proofs.Limit.{passed, passed-at-once, reading-long}
 use Rattle.recording.proofs.Trips.{laid_none, bytes_drop, kind-turn, kind-other, after_turn, Rest, whole, fault, rests}

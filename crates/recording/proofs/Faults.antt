@@ -5,10 +5,11 @@ use mathlib.Core.Bool.{Bool, true, false, cond}
 use mathlib.Core.List.{List, [], ◌∷◌}
 use native.Mathlib.Omega.{arith}
 use lib.Dec.{leb}
+use Rattle.std.proofs.lemmas.Result.{IfErr-at_err}
 use Rattle.refusals.specs.Rules.{Condition, under, isnt, judged, ◌gives◌}
 use Rattle.numbers.specs.Seven.{next_group}
-use Rattle.numbers.specs.declared.Group.{Group}
-use Rattle.numbers.specs.declared.Group.TheVariants.{More as OneMore, Last, Wrong}
+use Rattle.numbers.specs.Grouped.{Group}
+use Rattle.numbers.specs.Grouped.{More as OneMore, Last, Wrong}
 use Rattle.dispenser_frame_rules.specs.Table.{known}
 use Rattle.recording.specs.Record.{most_bytes, in_list}
 use Rattle.recording.specs.Reading.{awaiting, grown, next_number, more, whole, refused_at, refused, kind_byte, request_read, byte_read, command_read, numbered, group_read, grouped, byte_in, read_byte, ended, past_in, taken_byte, reader_after}
@@ -20,7 +21,7 @@ use Rattle.recording.specs.declared.Place.{Place}
 use Rattle.recording.specs.declared.Place.TheVariants.{Kind, Code, Upper, Lower, FromDispenser, Milliseconds, FromValidator, ToValidator, Broken}
 use Rattle.recording.specs.declared.Reader.{Reader}
 use Rattle.recording.specs.declared.Step.{Step}
-use Rattle.recording.specs.declared.Outcome.TheVariants.{Bad}
+use Rattle.recording.specs.Outcome.{Bad}
 
 -- ---- what a byte leaves: no offset but that of its record, or its own
 
@@ -101,7 +102,7 @@ pub record Low (m : ℕ) (t : Step) : Type 0 where
 low-left : {m : ℕ} {t : Step} → Left m t → Low m t
 low-left (going r h) = record { begun = h; bad = λ why at e. let z : ◌≡◌ {A = ℕ} 0 1 = cc in absurd (omega arith) }
 low-left (complete x) = record { begun = omega arith; bad = λ why at e. let z : ◌≡◌ {A = ℕ} 0 1 = cc in absurd (omega arith) }
-low-left (faulty o w h) = record { begun = h; bad = λ why at e. let z : o ≡ at = cc in omega (arith, z, h) }
+low-left (faulty o w h) = record { begun = h; bad = λ why at e. let z : o ≡ at = IfErr-at_err (λ x. o ≡ x.at) e refl in omega (arith, z, h) }
 
 pub taken-low : {m : ℕ} (r : Reader) (at b : ℕ) → r.start ≤ m → at ≤ m → Low m (taken_byte r at b)
 taken-low r at b h l = low-left (left-taken r at b h l)
@@ -129,8 +130,8 @@ stays-left : {m : ℕ} {t : Step} → Left m t → (why : Fault) (at : ℕ) → 
 stays-left (going r h) why at e = let z : ◌≡◌ {A = ℕ} 0 1 = cc in absurd (omega arith)
 stays-left (complete x) why at e = let z : ◌≡◌ {A = ℕ} 0 1 = cc in absurd (omega arith)
 stays-left (faulty o w h) why at e =
-    let same : w ≡ why = cc in
-    let place : o ≡ at = cc in
+    let same : w ≡ why = IfErr-at_err (λ x. w ≡ x.fault) e refl in
+    let place : o ≡ at = IfErr-at_err (λ x. o ≡ x.at) e refl in
     subst (λ (v : Fault). Stays v at (awaiting o (Broken w))) same (subst (λ (q : ℕ). Stays w q (awaiting o (Broken w))) place (stays o w))
 
 pub fault-stays : FaultStays

@@ -1,4 +1,5 @@
 -- The step folded over bytes, one byte at a time. Assumes nothing.
+use Rattle.std.specs.Prelude.{Err}
 use Prim.Native.Nat.{ℕ, suc, ◌+◌, ◌≤◌, ◌<◌}
 use mathlib.Core.Path.{◌≡◌, refl, sym, ap, ◌∙◌}
 use mathlib.Core.List.{List, [], ◌∷◌}
@@ -6,20 +7,17 @@ use native.Mathlib.Numerals.{add-one}
 use native.Mathlib.Omega.{arith}
 use lib.ListN.{length, drop, get_or, drop_of_length-le}
 use lib.Seq.{drop-cons}
-use denote.Enum.Declared.{tag_of}
-use types.Run.{OneOf, hit, miss}
 use borrow.Author.Tests.{le-leb, lt-leb}
 use Rattle.recording.specs.Record.{most_bytes}
 use Rattle.recording.specs.Reading.{Reading, records, bad, fresh_reader, read_byte, ended, past_in, taken_byte, also, went, closing, reading_from, taking_from, read_recording, verdict_of}
 use Rattle.recording.specs.declared.Fault.{Fault}
+use Rattle.recording.specs.declared.Bad.{Bad as BadAt}
 use Rattle.recording.specs.declared.Record.{Record}
 use Rattle.recording.specs.declared.Reader.{Reader}
-use Rattle.recording.specs.declared.Outcome.{Outcome}
-use Rattle.recording.specs.declared.Outcome.TheVariants.{More, Whole, Bad}
+use Rattle.recording.specs.Outcome.{Outcome, More, Whole, Bad}
 use Rattle.recording.specs.declared.Step.{Step}
-use Rattle.recording.specs.declared.Verdict.{Verdict}
-use Rattle.recording.specs.declared.Verdict.TheVariants.{Good, Bad as NotGood}
-use Rattle.recording.specs.contracts.Outcome.{the_type}
+use Rattle.recording.specs.Verdict.{Verdict}
+use Rattle.recording.specs.Verdict.{Good}
 
 pub reading-nil : (r : Reader) (at : ℕ) → reading_from r at [] ≡ closing (ended r)
 unfolding reading_from
@@ -88,20 +86,14 @@ verdict-also x (records xs) = refl
 verdict-also x (bad why at) = refl
 
 -- a byte that shows no fault leaves it to the rest
-pub verdict-went : (h : Outcome) → OneOf (0 ∷ 1 ∷ []) (tag_of the_type h) → (rest : Reading) → verdict_of (went h rest) ≡ verdict_of rest
-verdict-went More k rest = refl
-verdict-went (Whole x) k rest = verdict-also x rest
-verdict-went (Bad why at) k rest = absurd (miss (0 ∷ 1 ∷ []) 2 tt k)
-
--- an outcome that shows no fault
-pub no-fault : (h : Outcome) → ((why : Fault) (at : ℕ) → h ≡ Bad why at → ⊥) → OneOf (0 ∷ 1 ∷ []) (tag_of the_type h)
-no-fault More n = hit (0 ∷ 1 ∷ []) 0 tt
-no-fault (Whole x) n = hit (0 ∷ 1 ∷ []) 1 tt
-no-fault (Bad why at) n = absurd (n why at refl)
+verdict-went : (h : Outcome) → ((why : BadAt ℕ) → h ≡ Err why → ⊥) → (rest : Reading) → verdict_of (went h rest) ≡ verdict_of rest
+verdict-went More n rest = refl
+verdict-went (Whole x) n rest = verdict-also x rest
+verdict-went (Err why) n rest = absurd (n why refl)
 
 pub verdict-closing : (v : Verdict) → verdict_of (closing v) ≡ v
 verdict-closing Good = refl
-verdict-closing (NotGood why at) = refl
+verdict-closing (Err x) = refl
 
 -- ---- the loop over a recording: t is what the byte at i left
 
@@ -112,6 +104,6 @@ module _ (r : Reader) (s : List ℕ) (i : ℕ) (h : i < length s) (t : Step) (e 
   pub taking-bad : {why : Fault} {at : ℕ} → t.outcome ≡ Bad why at → taking_from r i (drop i s) ≡ bad why at
   taking-bad f = taking-one ∙ ap (λ (x : Outcome). went x (taking_from t.reader (i + 1) (drop (i + 1) s))) f
 
-  pub taking-on : OneOf (0 ∷ 1 ∷ []) (tag_of the_type t.outcome)
+  pub taking-on : ((why : BadAt ℕ) → t.outcome ≡ Err why → ⊥)
       → verdict_of (taking_from r i (drop i s)) ≡ verdict_of (taking_from t.reader (i + 1) (drop (i + 1) s))
-  taking-on k = ap verdict_of taking-one ∙ verdict-went t.outcome k _
+  taking-on n = ap verdict_of taking-one ∙ verdict-went t.outcome n _

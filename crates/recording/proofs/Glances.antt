@@ -9,8 +9,8 @@ use lib.ListN.{length, drop, get_or, drop_of_length-le}
 use lib.Seq.{drop-cons}
 use types.Run.{hit}
 use Rattle.numbers.specs.Seven.{next_group}
-use Rattle.numbers.specs.declared.Group.{Group}
-use Rattle.numbers.specs.declared.Group.TheVariants.{More as OneMore, Last}
+use Rattle.numbers.specs.Grouped.{Group}
+use Rattle.numbers.specs.Grouped.{More as OneMore, Last}
 use Rattle.numbers.proofs.Groups.{group-more, group-last, next-begun}
 use Rattle.recording.specs.Reading.{fresh_reader, awaiting, grown, next_number, more, kind_byte, numbered, request_read, group_read, grouped, read_byte}
 use Rattle.recording.specs.Taking.{settled, found_from, found_at, glances_in}
@@ -21,10 +21,10 @@ use Rattle.recording.specs.declared.Record.{Record}
 use Rattle.recording.specs.declared.Place.TheVariants.{Code, Upper}
 use Rattle.recording.specs.declared.Reader.{Reader}
 use Rattle.recording.specs.declared.Step.{Step}
-use Rattle.recording.specs.declared.Outcome.{Outcome}
-use Rattle.recording.specs.declared.Outcome.TheVariants.{More, Whole as ByteWhole, Bad as ByteBad}
-use Rattle.recording.specs.declared.taking.NextRecord.{NextRecord}
-use Rattle.recording.specs.declared.taking.NextRecord.TheVariants.{Whole, Bad}
+use Rattle.recording.specs.Outcome.{Outcome}
+use Rattle.recording.specs.Outcome.{More, Whole as ByteWhole, Bad as ByteBad}
+use Rattle.recording.specs.NextRecord.{NextRecord}
+use Rattle.recording.specs.NextRecord.{Whole, Bad}
 use Rattle.recording.proofs.Places.{within, Inside, begun-byte, with_number, place_inside}
 
 -- ---- the fold

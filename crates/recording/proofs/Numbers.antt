@@ -1,4 +1,5 @@
 -- The numbers of a record, read one behind the other: where the reader stands after some of them, and what the next one brings. Assumes nothing.
+use Rattle.std.specs.Prelude.{Ok}
 use Prim.Native.Nat.{ℕ, suc, ◌+◌, ◌%◌, ◌<◌}
 use mathlib.Core.Path.{◌≡◌, refl, ap, ◌∙◌}
 use mathlib.Core.List.{List, [], ◌∷◌, ◌++◌}
@@ -9,10 +10,10 @@ use types.Run.{hit}
 use borrow.Author.Tests.{lt-ltb, le-ltb}
 use Rattle.refusals.specs.Rules.{at_most}
 use Rattle.numbers.specs.Seven.{number_end, group_after, after_group, read_from}
-use Rattle.numbers.specs.declared.Group.{Group}
-use Rattle.numbers.specs.declared.Group.TheVariants.{More as OneMore, Last, Wrong}
-use Rattle.numbers.specs.declared.Seven.{Seven}
-use Rattle.numbers.specs.declared.Seven.TheVariants.{Value, Bad as NoNumber, Cut as NoEnd}
+use Rattle.numbers.specs.Grouped.{Group}
+use Rattle.numbers.specs.Grouped.{More as OneMore, Last, Wrong}
+use Rattle.numbers.specs.Sevens.{Seven}
+use Rattle.numbers.specs.Sevens.{Bad as NoNumber, Cut as NoEnd}
 use Rattle.refusals.proofs.Rules.{by_cases, holds-true, fails-false}
 use Rattle.numbers.proofs.Groups.{Weight, weight-most, Found, found, found-more, next-begun, read-cons, read-nil}
 use Rattle.dispenser_frame_rules.specs.Table.{known}
@@ -25,7 +26,7 @@ use Rattle.recording.specs.declared.Place.{Place}
 use Rattle.recording.specs.declared.Place.TheVariants.{Code, Upper, Lower, FromDispenser, Milliseconds, FromValidator, ToValidator}
 use Rattle.recording.specs.declared.Reader.{Reader}
 use Rattle.recording.specs.declared.Step.{Step}
-use Rattle.recording.specs.declared.Outcome.TheVariants.{Bad}
+use Rattle.recording.specs.Outcome.{Bad}
 use Rattle.recording.proofs.Places.{within, Inside, begun-byte, begun-ended}
 use Rattle.recording.proofs.Folds.{reading-nil, reading-cons}
 
@@ -125,13 +126,13 @@ module _ (at k : ℕ) (ns : List ℕ) where
     pub is : o ≡ went (numbered r.place r n).outcome (reading_from (numbered r.place r n).reader (p + i) (drop i u))
 
   abbrev pub Comes : ℕ → ℕ → List ℕ → Seven → Reading → Type 0
-  Comes j p u (Value n used) o = Ends j p u n used o
+  Comes j p u (Ok v) o = Ends j p u v.value v.used o
   Comes j p u NoNumber o = o ≡ bad BadNumber at
   Comes j p u NoEnd o = o ≡ bad Cut at
 
   comes-later : (j p b : ℕ) (u : List ℕ) (v : Seven) (o : Reading) → Comes (suc j) (suc p) u v o → Comes j p (b ∷ u) v o
-  comes-later j p b u (Value n used) o e =
-      record { r = e.r; stage = e.stage; i = suc e.i; took = omega (arith, e.took); is = e.is ∙ ap (λ (q : ℕ). went (numbered e.r.place e.r n).outcome (reading_from (numbered e.r.place e.r n).reader q (drop e.i u))) (omega arith) }
+  comes-later j p b u (Ok v) o e =
+      record { r = e.r; stage = e.stage; i = suc e.i; took = omega (arith, e.took); is = e.is ∙ ap (λ (q : ℕ). went (numbered e.r.place e.r v.value).outcome (reading_from (numbered e.r.place e.r v.value).reader q (drop e.i u))) (omega arith) }
   comes-later j p b u NoNumber o e = e
   comes-later j p b u NoEnd o e = e
 

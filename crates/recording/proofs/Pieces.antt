@@ -9,8 +9,8 @@ use lib.ListN.{length, drop, length-drop}
 use types.Run.{hit, miss}
 use Rattle.refusals.specs.Rules.{Condition, under, isnt, judged, ◌gives◌}
 use Rattle.numbers.specs.Seven.{number_end, next_group}
-use Rattle.numbers.specs.declared.Group.{Group}
-use Rattle.numbers.specs.declared.Group.TheVariants.{More as OneMore, Last, Wrong}
+use Rattle.numbers.specs.Grouped.{Group}
+use Rattle.numbers.specs.Grouped.{More as OneMore, Last, Wrong}
 use Rattle.dispenser_frame_rules.specs.Table.{known}
 use Rattle.recording.specs.Record.{in_list}
 use Rattle.recording.specs.Reading.{fresh_reader, awaiting, grown, next_number, more, whole, refused_at, refused, kind_byte, numbered, request_read, byte_read, command_read, group_read, grouped, read_byte}
@@ -24,8 +24,8 @@ use Rattle.recording.specs.declared.Place.{Place}
 use Rattle.recording.specs.declared.Place.TheVariants.{Kind, Code, Upper, Lower, FromDispenser, Milliseconds, FromValidator, ToValidator, Broken}
 use Rattle.recording.specs.declared.Reader.{Reader}
 use Rattle.recording.specs.declared.Step.{Step}
-use Rattle.recording.specs.declared.taking.NextRecord.{NextRecord}
-use Rattle.recording.specs.declared.taking.NextRecord.TheVariants.{Whole, Bad}
+use Rattle.recording.specs.NextRecord.{NextRecord}
+use Rattle.recording.specs.NextRecord.{Whole, Bad}
 use Rattle.recording.proofs.Places.{within, Inside, begun-byte}
 use Rattle.recording.proofs.Glances.{found-nil, found-step}
 use Rattle.recording.proofs.Starts.{Held, begun, complete, faulty, held-byte, held-kind}

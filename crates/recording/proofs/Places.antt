@@ -13,7 +13,7 @@ use Rattle.recording.specs.declared.Fault.TheVariants.{Cut, Unknown, Long}
 use Rattle.recording.specs.declared.Place.{Place}
 use Rattle.recording.specs.declared.Place.TheVariants.{Kind, Code, Upper, Lower, FromDispenser, Milliseconds, FromValidator, ToValidator, Broken}
 use Rattle.recording.specs.declared.Reader.{Reader}
-use Rattle.recording.specs.declared.Verdict.TheVariants.{Bad as NotGood}
+use Rattle.recording.specs.Verdict.{Bad as NotGood}
 use Rattle.recording.specs.contracts.Place.{the_type}
 
 -- the places of a number

@@ -9,9 +9,10 @@ use lib.ListN.{length, take, drop, length-drop, take-append-drop}
 use lib.Seq.{drop-drop}
 use types.Run.{hit, miss}
 use Rattle.refusals.specs.Rules.{Condition, under, isnt, judged, ◌gives◌}
+use Rattle.std.proofs.lemmas.Result.{IfOk-at_ok}
 use Rattle.numbers.specs.Seven.{number_end, next_group}
-use Rattle.numbers.specs.declared.Group.{Group}
-use Rattle.numbers.specs.declared.Group.TheVariants.{More as OneMore, Last, Wrong}
+use Rattle.numbers.specs.Grouped.{Group}
+use Rattle.numbers.specs.Grouped.{More as OneMore, Last, Wrong}
 use Rattle.dispenser_frame_rules.specs.Table.{known}
 use Rattle.recording.specs.Record.{in_list}
 use Rattle.recording.specs.Reading.{Reading, bad, fresh_reader, awaiting, grown, next_number, more, whole, refused_at, refused, kind_byte, numbered, request_read, byte_read, command_read, group_read, grouped, read_byte, also, went, closing, reading_from}
@@ -25,8 +26,8 @@ use Rattle.recording.specs.declared.Place.{Place}
 use Rattle.recording.specs.declared.Place.TheVariants.{Kind, Code, Upper, Lower, FromDispenser, Milliseconds, FromValidator, ToValidator, Broken}
 use Rattle.recording.specs.declared.Reader.{Reader}
 use Rattle.recording.specs.declared.Step.{Step}
-use Rattle.recording.specs.declared.taking.NextRecord.{NextRecord}
-use Rattle.recording.specs.declared.taking.NextRecord.TheVariants.{Whole, Bad}
+use Rattle.recording.specs.NextRecord.{NextRecord}
+use Rattle.recording.specs.NextRecord.{Whole, Bad}
 use Rattle.recording.proofs.Places.{within, Inside, begun-byte, begun-ended}
 use Rattle.recording.proofs.Folds.{reading-nil, reading-cons}
 use Rattle.recording.proofs.Glances.{found-nil, found-step}
@@ -134,8 +135,8 @@ pub record Stands (s : List ℕ) (i : ℕ) (x : Record) (n : ℕ) : Type 0 where
 one-read : (s : List ℕ) (i : ℕ) → i < length s → {x : Record} {n : ℕ} {f : NextRecord} → f ≡ Whole x n
     → Leads i i 0 (drop i s) (reading_from fresh_reader i) f → Stands s i x n
 one-read s i h {x} {n} q (one y k p l e) =
-    let same : y ≡ x = cc in
-    let size : 0 + k ≡ n = cc in
+    let same : y ≡ x = IfOk-at_ok (λ p. y ≡ p.0) q refl in
+    let size : 0 + k ≡ n = IfOk-at_ok (λ p. 0 + k ≡ p.1) q refl in
     let m : k ≡ n = omega (arith, size) in
     subst (λ (j : ℕ). Stands s i x j) m
     (subst (λ (z : Record). Stands s i z k) same (record { some = p; fits = omega (arith, simp length-drop at l); alone = e }))

@@ -1,13 +1,15 @@
 -- A record's numbers: what they bring once they are read, both ways, one behind the other. Assumes nothing.
+use Rattle.std.specs.Prelude.{Ok}
 use Prim.Native.Nat.{ℕ, zero, suc, ◌+◌, ◌<◌}
 use mathlib.Core.Path.{◌≡◌, refl, sym, ap, ap₂, ◌∙◌, subst}
 use mathlib.Core.List.{List, [], ◌∷◌, ◌++◌, append_assoc, append-nil}
 use native.Mathlib.Omega.{arith}
 use lib.ListN.{length, drop, length-append, take-append-drop}
 use Rattle.numbers.specs.Promises.{AllBytes}
+use Rattle.std.proofs.lemmas.Result.{IfOk-at_ok}
 use Rattle.numbers.specs.Seven.{number_end, groups, read_from, read_groups}
-use Rattle.numbers.specs.declared.Seven.{Seven}
-use Rattle.numbers.specs.declared.Seven.TheVariants.{Value, Bad as NoNumber, Cut as NoEnd}
+use Rattle.numbers.specs.Sevens.{Seven}
+use Rattle.numbers.specs.Sevens.{Value, Bad as NoNumber, Cut as NoEnd}
 use Rattle.numbers.proofs.Groups.{Weight, first-weight, group-trips}
 use Rattle.recording.specs.Record.{kind_of, numbers_of, is_kind, how_many, takes, AllBelow, laid_numbers, InRange}
 use Rattle.recording.specs.Reading.{Reading, bad, fresh_reader, refused_at, kind_byte, read_byte, also, went, reading_from}
@@ -18,7 +20,7 @@ use Rattle.recording.specs.declared.Record.{Record}
 use Rattle.recording.specs.declared.Record.TheVariants.{Request, DispenserByte, Tick, ValidatorByte, Command, Clear}
 use Rattle.recording.specs.declared.Reader.{Reader}
 use Rattle.recording.specs.declared.Step.{Step}
-use Rattle.recording.specs.declared.Outcome.{Outcome}
+use Rattle.recording.specs.Outcome.{Outcome}
 use Rattle.recording.proofs.Places.{other-kind}
 use Rattle.recording.proofs.Numbers.{Stage, code, from-dispenser, milliseconds, from-validator, to-validator, stage-kind, Turn, next, done, other, turn, Ends, Comes, number-law}
 
@@ -121,7 +123,7 @@ split u n used h e =
     let g = group-trips.again u n used h e in
     let are : u ≡ groups n ++ drop used u = sym (take-append-drop used u) ∙ ap (λ (l : List ℕ). l ++ drop used u) g.1 in
     let v : Value n used ≡ Value n (length (groups n)) = sym e ∙ ap read_groups are ∙ group-trips.back n (drop used u) g.0 in
-    record { below = g.0; are = are; long = cc }
+    record { below = g.0; are = are; long = IfOk-at_ok (λ x. used ≡ x.used) v refl }
 
 pub bytes_drop : (i : ℕ) (u : List ℕ) → AllBytes u → AllBytes (drop i u)
 bytes_drop zero u h = h
@@ -149,11 +151,11 @@ Later m at k = (ms : List ℕ) (q : ℕ) (t : List ℕ) (o : Reading) → length
 
 one_more : {at k : ℕ} {ns : List ℕ} {r : Reader} (m : ℕ) → Stage at k ns r → r.acc ≡ 0 → r.weight ≡ 1 → length ns + suc m ≡ how_many k → AllBelow ns
     → (p : ℕ) (u : List ℕ) → AllBytes u → Later m at k → (v : Seven) → read_groups u ≡ v → Rest at k ns p u (reading_from r p u)
-one_more {at} {k} {ns} {r} m s a w l b p u h later (Value n used) e =
-    let y = split u n used h e in
-    rest_more ns n p u (drop used u) y.are
-    (later (ns ++ (n ∷ [])) (p + length (groups n)) (drop used u) (reading_from r p u) (simp length-append (omega (arith, l))) (below-snoc ns n b y.below) (bytes_drop used u h)
-    (subst (λ (j : ℕ). After at k (ns ++ (n ∷ [])) (p + j) (drop used u) (reading_from r p u)) y.long (comes-number s a w p u n used e b)))
+one_more {at} {k} {ns} {r} m s a w l b p u h later (Ok v) e =
+    let y = split u v.value v.used h e in
+    rest_more ns v.value p u (drop v.used u) y.are
+    (later (ns ++ (v.value ∷ [])) (p + length (groups v.value)) (drop v.used u) (reading_from r p u) (simp length-append (omega (arith, l))) (below-snoc ns v.value b y.below) (bytes_drop v.used u h)
+    (subst (λ (j : ℕ). After at k (ns ++ (v.value ∷ [])) (p + j) (drop v.used u) (reading_from r p u)) y.long (comes-number s a w p u v.value v.used e b)))
 one_more {at} {k} {ns} m s a w l b p u h later NoNumber e = fault BadNumber (number k ns u (stage-kind s).0 (stage-kind s).1 b e) (comes-bad s a w p u e)
 one_more {at} {k} {ns} m s a w l b p u h later NoEnd e = fault Cut (cut k ns u (stage-kind s).0 (stage-kind s).1 b e) (comes-cut s a w p u e)
 

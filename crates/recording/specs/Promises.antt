@@ -3,7 +3,7 @@
 use Rattle.std.specs.Prelude.{ℕ, ◌+◌, ◌≤◌, ◌<◌, ◌≡◌, List, ◌∷◌, ◌++◌, ◌↔◌, length, take, drop}
 use Rattle.numbers.specs.Promises.{AllBytes}
 use Rattle.numbers.specs.Seven.{read_groups}
-use Rattle.numbers.specs.declared.Seven.TheVariants.{Bad as NoNumber, Cut as NoEnd}
+use Rattle.numbers.specs.Sevens.{Bad as NoNumber, Cut as NoEnd}
 use Rattle.recording.specs.Record.{most_bytes, is_kind, how_many, takes, AllBelow, laid_numbers, record_bytes, InRange, laid, AllInRange}
 use Rattle.recording.specs.Reading.{records, bad, fresh_reader, ended, taken_byte, reader_after, also, reading_from, read_recording}
 use Rattle.recording.specs.Taking.{found_at}
@@ -11,9 +11,9 @@ use Rattle.recording.specs.declared.Fault.{Fault}
 use Rattle.recording.specs.declared.Fault.TheVariants.{BadNumber, Cut, Unknown, Long}
 use Rattle.recording.specs.declared.Record.{Record}
 use Rattle.recording.specs.declared.Reader.{Reader}
-use Rattle.recording.specs.declared.Outcome.TheVariants.{Bad as ByteBad}
-use Rattle.recording.specs.declared.Verdict.TheVariants.{Bad as NotGood}
-use Rattle.recording.specs.declared.taking.NextRecord.TheVariants.{Whole, Bad}
+use Rattle.recording.specs.Outcome.{Bad as ByteBad}
+use Rattle.recording.specs.Verdict.{Bad as NotGood}
+use Rattle.recording.specs.NextRecord.{Whole, Bad}
 
 -- why no record stands at the start of these bytes: an unknown kind; its numbers ns, and not the values that its kind takes; fewer numbers than
 -- it has, and then bytes that are no number, or an end before the last group of one

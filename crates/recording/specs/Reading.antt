@@ -1,9 +1,9 @@
 -- Reading a recording, a byte at a time (01, "Recording and report").
-use Rattle.std.specs.Prelude.{ℕ, zero, suc, ◌%◌, List, [], ◌∷◌}
+use Rattle.std.specs.Prelude.{ℕ, zero, suc, ◌%◌, List, [], ◌∷◌, Err}
 use Rattle.refusals.specs.Rules.{isnt, under, at_most, judged, first_of, ◌gives◌}
 use Rattle.numbers.specs.Seven.{number_end, next_group}
-use Rattle.numbers.specs.declared.Group.{Group}
-use Rattle.numbers.specs.declared.Group.TheVariants.{More as OneMore, Last, Wrong}
+use Rattle.numbers.specs.Grouped.{Group}
+use Rattle.numbers.specs.Grouped.{More as OneMore, Last, Wrong}
 use Rattle.dispenser_frame_rules.specs.Table.{known}
 use Rattle.recording.specs.Record.{most_bytes, in_list}
 use Rattle.recording.specs.declared.Fault.{Fault}
@@ -13,11 +13,11 @@ use Rattle.recording.specs.declared.Record.TheVariants.{Request, DispenserByte, 
 use Rattle.recording.specs.declared.Place.{Place}
 use Rattle.recording.specs.declared.Place.TheVariants.{Kind, Code, Upper, Lower, FromDispenser, Milliseconds, FromValidator, ToValidator, Broken}
 use Rattle.recording.specs.declared.Reader.{Reader}
-use Rattle.recording.specs.declared.Outcome.{Outcome}
-use Rattle.recording.specs.declared.Outcome.TheVariants.{More, Whole, Bad}
+use Rattle.recording.specs.Outcome.{Outcome}
+use Rattle.recording.specs.Outcome.{More, Whole, Bad}
 use Rattle.recording.specs.declared.Step.{Step}
-use Rattle.recording.specs.declared.Verdict.{Verdict}
-use Rattle.recording.specs.declared.Verdict.TheVariants.{Good, Bad as NotGood}
+use Rattle.recording.specs.Verdict.{Verdict}
+use Rattle.recording.specs.Verdict.{Good, Bad as NotGood}
 
 -- ---- the reader
 
@@ -173,11 +173,11 @@ also x (bad why at) = bad why at
 abbrev pub went : Outcome → Reading → Reading
 went More rest = rest
 went (Whole x) rest = also x rest
-went (Bad why at) rest = bad why at
+went (Err x) rest = bad x.fault x.at
 
 abbrev pub closing : Verdict → Reading
 closing Good = records []
-closing (NotGood why at) = bad why at
+closing (Err x) = bad x.fault x.at
 
 -- the step over one byte, folded over bytes of which the first stands at an offset; wherever that is
 unfoldable pub reading_from : Reader → ℕ → List ℕ → Reading

@@ -4,9 +4,9 @@ use Rattle.recording.specs.Reading.{kind_byte}
 use Rattle.recording.specs.declared.Place.{Place}
 use Rattle.recording.specs.declared.Place.TheVariants.{Lower}
 use Rattle.recording.specs.declared.Reader.{Reader}
-use Rattle.recording.specs.declared.taking.NextRecord.{NextRecord}
-use Rattle.recording.specs.declared.taking.Glance.{Glance}
-use Rattle.recording.specs.declared.taking.Glance.TheVariants.{Sure, Longer}
+use Rattle.recording.specs.NextRecord.{NextRecord}
+use Rattle.recording.specs.Glance.{Glance}
+use Rattle.recording.specs.Glance.{Sure, Longer}
 
 -- what the bytes behind a kind belong to
 abbrev pub place_of : ℕ → Place

@@ -1,18 +1,18 @@
 -- A record taken at once, where one is due: the step over one byte, folded until a record is whole or a fault shows.
-use Rattle.std.specs.Prelude.{ℕ, suc, ◌-◌, Bool, cond, List, [], ◌∷◌, length, drop}
+use Rattle.std.specs.Prelude.{ℕ, suc, ◌-◌, Bool, cond, List, [], ◌∷◌, length, drop, Err}
 use Rattle.recording.specs.Reading.{fresh_reader, read_byte}
 use Rattle.recording.specs.declared.Fault.TheVariants.{Cut}
 use Rattle.recording.specs.declared.Reader.{Reader}
-use Rattle.recording.specs.declared.Outcome.{Outcome}
-use Rattle.recording.specs.declared.Outcome.TheVariants.{More, Whole as ByteWhole, Bad as ByteBad}
-use Rattle.recording.specs.declared.taking.NextRecord.{NextRecord}
-use Rattle.recording.specs.declared.taking.NextRecord.TheVariants.{Whole, Bad}
+use Rattle.recording.specs.Outcome.{Outcome}
+use Rattle.recording.specs.Outcome.{More, Whole as ByteWhole}
+use Rattle.recording.specs.NextRecord.{NextRecord}
+use Rattle.recording.specs.NextRecord.{Whole, Bad}
 
 -- what the n-th byte of a record settles: the record, which has n bytes; a fault; or nothing yet
 abbrev pub settled : Outcome → ℕ → NextRecord → NextRecord
 settled More n rest = rest
 settled (ByteWhole x) n rest = Whole x n
-settled (ByteBad why at) n rest = Bad why
+settled (Err x) n rest = Bad x.fault
 
 -- the bytes that follow the first n of a record; "cut short" where they end first
 unfoldable pub found_from : Reader → ℕ → ℕ → List ℕ → NextRecord

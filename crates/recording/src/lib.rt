@@ -11,7 +11,7 @@ ghost use Rattle.recording.specs.Reading.{fresh_reader, awaiting, grown, next_nu
 
 use dispenser_frame::answer_length;
 use numbers::{Group, NUMBER_END, next_group};
-pub use taking::{NextRecord, glances_in, reader_at, record_at, record_in, rest_at};
+pub use taking::{glances_in, reader_at, record_at, record_in, rest_at};
 
 // Why a recording is bad.
 #[derive(Clone, Copy)]
@@ -86,27 +86,18 @@ pub struct Reader {
     pub place: Place,
 }
 
-// What a byte brings.
+// Why a recording is bad, and the offset of the record in which it shows.
 #[derive(Clone, Copy)]
-pub enum Outcome {
-    More,
-    Whole(Record),
-    // Why the recording is bad, and the offset of the record in which it shows.
-    Bad(Fault, u64),
+pub struct Bad<A> {
+    pub fault: Fault,
+    pub at: A,
 }
 
-// The step over one byte: what it leaves, and what it brings.
+// The step over one byte: what it leaves, and the record that it ends, if it ends one.
 #[derive(Clone, Copy)]
 pub struct Step {
     pub reader: Reader,
-    pub outcome: Outcome,
-}
-
-// What is said of a recording.
-#[derive(Clone, Copy)]
-pub enum Verdict {
-    Good,
-    Bad(Fault, u64),
+    pub outcome: Result<Option<Record>, Bad<u64>>,
 }
 
 fn more(reader: Reader) -> Step
@@ -114,7 +105,7 @@ fn more(reader: Reader) -> Step
 {
     Step {
         reader,
-        outcome: Outcome::More,
+        outcome: Ok(None),
     }
 }
 
@@ -123,7 +114,7 @@ fn whole(x: Record) -> Step
 {
     Step {
         reader: Reader::fresh(),
-        outcome: Outcome::Whole(x),
+        outcome: Ok(Some(x)),
     }
 }
 
@@ -219,7 +210,7 @@ impl Reader {
     {
         Step {
             reader: Reader::awaiting(at, Place::Broken(why)),
-            outcome: Outcome::Bad(why, at),
+            outcome: Err(Bad { fault: why, at }),
         }
     }
 
@@ -315,9 +306,9 @@ impl Reader {
         ensures { result ≡ grouped self b }
     {
         match next_group(self.acc, self.weight, b) {
-            Group::More(acc, weight) => more(self.grown(acc, weight)),
-            Group::Last(n) => self.number(n),
-            Group::Wrong => Reader::refused(Fault::BadNumber, self.start),
+            Some(Group::More { acc, weight }) => more(self.grown(acc, weight)),
+            Some(Group::Last(n)) => self.number(n),
+            None => Reader::refused(Fault::BadNumber, self.start),
         }
     }
 
@@ -355,35 +346,35 @@ impl Reader {
     }
 
     // The recording has ended: it is cut short where a record is begun, and bad where a fault was met.
-    pub fn ended(self) -> Verdict
+    pub fn ended(self) -> Result<(), Bad<u64>>
         ensures { result ≡ ended self }
     {
         let p = self.place;
         match p {
-            Place::Kind => Verdict::Good,
-            Place::Broken(why) => Verdict::Bad(why, self.start),
-            _ => Verdict::Bad(Fault::Cut, self.start),
+            Place::Kind => Ok(()),
+            Place::Broken(why) => Err(Bad {
+                fault: why,
+                at: self.start,
+            }),
+            _ => Err(Bad {
+                fault: Fault::Cut,
+                at: self.start,
+            }),
         }
     }
 }
 
 // What a whole recording is: good, or bad as its first fault says.
-pub fn judge(recording: &[u8]) -> Verdict
+pub fn judge(recording: &[u8]) -> Result<(), Bad<u64>>
     ensures { result ≡ verdict recording.now }
 {
     let mut reader = Reader::fresh();
-    let mut i: usize = 0;
-    while i < recording.len() {
-        let step = reader.taken(i as u64, recording[i]);
-        let outcome = step.outcome;
-        match outcome {
-            Outcome::Bad(why, at) => {
-                return Verdict::Bad(why, at);
-            }
-            _ => {}
+    for (i, &b) in recording.iter().enumerate() {
+        let step = reader.taken(i as u64, b);
+        if let Err(bad) = step.outcome {
+            return Err(bad);
         }
         reader = step.reader;
-        i += 1;
     }
     reader.ended()
 }

@@ -5,11 +5,12 @@ use mathlib.Core.Logic.{inl, ⊎_elim}
 use mathlib.Core.List.{List, [], ◌∷◌, ◌++◌}
 use Prim.Native.Nat.{ℕ, suc, ◌≤◌, ◌<◌}
 use native.Mathlib.Nat.{le_refl}
+use native.Mathlib.Numerals.{add-one}
 use native.Mathlib.Omega.{arith}
-use lib.ListN.{length, take, drop, set, take-append-drop}
-use lib.Seq.{drop-cons, take-suc-set, drop-set-lt, append_snoc, take-append_seam}
+use lib.ListN.{length, take, drop, set, length-append, take-append-drop}
+use lib.Seq.{drop-cons, take-suc-set, drop-set-lt, append_snoc, set-append_seam, take-append_seam}
 use borrow.Author.Tests.{lt-ltb, le-ltb}
-use Rattle.refusals.specs.declared.Put.TheVariants.{Bytes}
+use Rattle.refusals.specs.Put.{Bytes}
 use Rattle.refusals.specs.declared.Refusal.TheVariants.{Room}
 use Rattle.refusals.specs.declared.Refusal.{Refusal}
 use Rattle.refusals.specs.Rules.{Rule, at_most, judged, NoneOf, Exactly}
@@ -38,6 +39,13 @@ pub over_last : (bytes : List ℕ) (b : ℕ) (room : List ℕ) (i : ℕ) → byt
     → set room i b ≡ take i room ++ over bytes (drop i room)
 unfolding over
 over_last bytes b room i e h = sym (take-append-drop (suc i) (set room i b)) ∙ over-one bytes b [] room i e h
+
+-- and where the bytes before it were laid all at once, the last is set behind them
+pub over-closed : (b j : ℕ) (front bytes room : List ℕ) → length front ≡ j → j < length room → front ++ (b ∷ []) ≡ bytes
+    → set (front ++ drop j room) j b ≡ over bytes room
+unfolding over
+over-closed b j front bytes room l h e =
+    rw (drop-cons room j 0 h, ← l, set-append_seam, ← e, append_snoc, length-append, add-one)
 
 -- a writer that put bytes met no refusal, and put the bytes that it lays
 pub record Done (rs : List (Rule Refusal)) (bytes room : List ℕ) (n : ℕ) (after : List ℕ) : Type 1 where

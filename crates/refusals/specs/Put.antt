@@ -1,11 +1,19 @@
 -- What a plain writer does (01, "Numbers a call can answer"): it lays its bytes at the start of the lent room, or refuses and changes
 -- nothing.
-use Rattle.std.specs.Prelude.{ℕ, List, [], ◌∷◌, ◌++◌, length, drop}
+use Rattle.std.specs.Prelude.{ℕ, Result, Ok, Err, List, [], ◌∷◌, ◌++◌, length, drop}
 use Rattle.refusals.specs.Rules.{Rule, under, judged, ◌gives◌}
 use Rattle.refusals.specs.declared.Refusal.{Refusal}
 use Rattle.refusals.specs.declared.Refusal.TheVariants.{Room}
-use Rattle.refusals.specs.declared.Put.{Put}
-use Rattle.refusals.specs.declared.Put.TheVariants.{Bytes, Refused}
+
+-- how many bytes a writer put, or why it put none
+abbrev pub Put : Type 0
+Put = Result ℕ Refusal
+
+pattern abbrev pub Bytes : ℕ → Put
+Bytes n = Ok n
+
+pattern abbrev pub Refused : Refusal → Put
+Refused why = Err why
 
 -- what a writer answers, with the room as it leaves it
 pub record Written : Type 0 where

@@ -62,7 +62,7 @@ pub const UNKNOWN: u8 = 23;
 pub const LONG: u8 = 24;
 
 // Why a plain writer refuses.
-#[derive(Clone, Copy)]
+#[derive(Clone, Copy, Debug, PartialEq, Eq)]
 pub enum Refusal {
     // The room lent is under the length of what is to be written.
     Room,
@@ -83,14 +83,10 @@ impl Refusal {
 }
 
 // What a plain writer answers: how many bytes it put at the room's start, or why it put none.
-#[derive(Clone, Copy)]
-pub enum Put {
-    Bytes(usize),
-    Refused(Refusal),
-}
+pub type Put = Result<usize, Refusal>;
 
 // Why a call on a line is declined.
-#[derive(Clone, Copy)]
+#[derive(Clone, Copy, Debug, PartialEq, Eq)]
 pub enum Declined {
     // The room lent for sending is too small.
     Room,
@@ -126,4 +122,21 @@ impl Declined {
             Declined::Unawaited => UNAWAITED,
         }
     }
+}
+
+// What a call on a line did: how many bytes it put at the room's start, and what came of it, as the closing of the open command.
+#[derive(Clone, Copy)]
+pub struct Done<C> {
+    pub put: usize,
+    pub closing: C,
+}
+
+// What a call on a line answers: what it did, or why it was declined.
+pub type Reply<C> = Result<Done<C>, Declined>;
+
+// What a call by value leaves: the session, and what it answers.
+#[derive(Clone, Copy)]
+pub struct Outcome<S, C> {
+    pub session: S,
+    pub reply: Reply<C>,
 }

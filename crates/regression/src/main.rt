@@ -5,8 +5,6 @@
 ghost use Rattle.std.specs.Prelude.{◌≤◌, length, IfSome};
 
 use grading_rules::{Findings, Replaying};
-use recording::Verdict;
-use refusals::Put;
 use std::io::Write;
 
 // No example has more bytes.
@@ -93,8 +91,8 @@ fn hold(rt: HostRuntime, name: &[u8], recording: &[u8], wanted: &[u8]) {
     }
     let mut room = [0u8; report::LONGEST];
     match report::report(recording, &mut room) {
-        Put::Bytes(n) => judged(rt, name, front(&room, n), wanted),
-        Put::Refused(_) => {
+        Ok(n) => judged(rt, name, front(&room, n), wanted),
+        Err(_) => {
             let _ = eprintln!(rt; "no room for the report");
         }
     }
@@ -134,22 +132,19 @@ fn byte_by_byte(recording: &[u8]) -> Findings {
 fn hold_found(rt: HostRuntime, name: &[u8], found: Findings, wanted: &[u8]) {
     let mut room = [0u8; report::LONGEST];
     match report::write_report(found, &mut room) {
-        Put::Bytes(n) => {
+        Ok(n) => {
             if !is_same(front(&room, n), wanted) {
                 say(rt, name, b": NOT the same when it is cut\n");
             }
         }
-        Put::Refused(_) => {
+        Err(_) => {
             let _ = eprintln!(rt; "no room for the report");
         }
     }
 }
 
 fn is_bad(recording: &[u8]) -> bool {
-    match recording::judge(recording) {
-        Verdict::Good => false,
-        Verdict::Bad(_, _) => true,
-    }
+    recording::judge(recording).is_err()
 }
 
 fn judged(rt: HostRuntime, name: &[u8], report: &[u8], wanted: &[u8]) {

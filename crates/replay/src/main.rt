@@ -3,7 +3,6 @@
 #![tactic(auto)]
 
 use grading_rules::Findings;
-use refusals::Put;
 use std::io::{Read, Write};
 
 // The most bytes that are read at once.
@@ -69,8 +68,8 @@ fn replay_from<R: Read>(rt: HostRuntime, input: &mut R, name: &[u8], piece: &mut
 fn show(rt: HostRuntime, name: &[u8], found: Findings) {
     let mut room = [0u8; report::LONGEST];
     match report::write_report(found, &mut room) {
-        Put::Bytes(n) => print(rt, &room, n),
-        Put::Refused(_) => {
+        Ok(n) => print(rt, &room, n),
+        Err(_) => {
             let _ = Write::write_all(&mut rt.stderr(), name);
             let _ = Write::write_all(&mut rt.stderr(), b": no room for the report\n");
         }

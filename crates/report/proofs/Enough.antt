@@ -6,6 +6,7 @@ use mathlib.Core.List.{List, [], ◌∷◌, ◌++◌}
 use native.Mathlib.Omega.{arith}
 use lib.Dec.{ltb}
 use lib.ListN.{length, take, get_or, set, length-append, length-set}
+use Rattle.std.specs.Prelude.{Option}
 use Rattle.refusals.specs.Rules.{same}
 use Rattle.numbers.specs.Promises.{AllBytes}
 use Rattle.refusals.proofs.Rules.{by_cases}
@@ -15,8 +16,8 @@ use Rattle.dispenser_rules.specs.Calls.{host}
 use Rattle.dispenser_rules.specs.Session.{fresh_session}
 use Rattle.exchange_rules.specs.declared.notes.Sums.{Sums}
 use Rattle.dispenser_rules.specs.declared.account.Cassettes.{Cassettes}
-use Rattle.dispenser_rules.specs.declared.errors.LastError.{LastError}
-use Rattle.dispenser_rules.specs.declared.errors.LastError.TheVariants.{NoneYet, Of}
+use Rattle.dispenser_rules.specs.LastError.{LastError}
+use Rattle.dispenser_rules.specs.LastError.{NoneYet, Of}
 use Rattle.dispenser_rules.specs.declared.errors.LastErrors.{LastErrors}
 use Rattle.error_codes.specs.Errors.{class_name}
 use Rattle.error_codes.specs.declared.ErrorClass.{ErrorClass}
@@ -25,7 +26,7 @@ use Rattle.dispenser_rules.specs.declared.session.Session.{Session}
 use Rattle.dispenser_rules.proofs.Demand3.{never_cut}
 use Rattle.dispenser_frame_rules.specs.declared.answer.Cassette.TheVariants.{Upper, Lower}
 use Rattle.validator_rules.specs.Limits.{types}
-use Rattle.validator_rules.specs.Bills.{bills, booked_by, plus}
+use Rattle.validator_rules.specs.Bills.{bills, no_bill, a_bill, booked_by, plus}
 use Rattle.validator_rules.specs.Session.{fresh_session as fresh_taker, session_request as taker_request, session_byte as taker_byte, session_tick as taker_tick}
 use Rattle.validator_rules.specs.declared.bills.Bills.{Bills}
 use Rattle.validator_rules.proofs.Agreeing.{kept-by-history}
@@ -51,8 +52,8 @@ use Rattle.grading_rules.specs.declared.findings.Findings.{Findings}
 use Rattle.bill_table.specs.Table.{word_at}
 use Rattle.bill_table.specs.Worth.{total_of}
 use Rattle.bill_table.specs.declared.Word.{Word}
-use Rattle.bill_table.specs.declared.Total.{Total}
-use Rattle.bill_table.specs.declared.Total.TheVariants.{NoValue, Sum, Refused}
+use Rattle.bill_table.specs.Total.{Total}
+use Rattle.bill_table.specs.Total.{NoValue, Sum, Refused}
 use Rattle.report_lines.proofs.Adding.{ten}
 use Rattle.report.proofs.Values.{total-fits, value-most}
 use Rattle.report.proofs.TableBytes.{first_small}
@@ -177,9 +178,10 @@ bad-most why at h = rw lines-one (simp length-append (omega (arith, ten (fault_n
 
 -- ---- the bills are always of 24 types
 
-booked-length : (bs : List Bills) (y : ℕ) → length (booked_by bs y) ≡ length bs
+booked-length : (bs : List Bills) (y : Option ℕ) → length (booked_by bs y) ≡ length bs
 unfolding booked_by
-booked-length bs y = by (ltb y types)
+booked-length bs no_bill = refl
+booked-length bs (a_bill y) = by (ltb y types)
   where
     by : (t : Bool) → length (cond t (set bs y (plus (get_or bs y (bills 0)) 1)) bs) ≡ length bs
     by true = length-set bs y _

@@ -3,7 +3,7 @@
 use Prim.Native.Nat.{ℕ}
 use mathlib.Core.Path.{ap}
 use mathlib.Core.List.{List}
-use Rattle.refusals.specs.declared.Put.{Put}
+use Rattle.refusals.specs.Put.{Put}
 use Rattle.refusals.proofs.Tied.{Tied, tied}
 use Rattle.report.proofs.write_report.Kinds as write-report
 use Rattle.report.proofs.write_report.Reads as write-report-reads

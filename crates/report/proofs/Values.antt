@@ -10,7 +10,7 @@ use Rattle.numbers.proofs.Decimal.{length-decimal, width-least}
 use Rattle.bill_table.specs.Worth.{value, total_of}
 use Rattle.bill_table.specs.declared.Word.{Word}
 use Rattle.bill_table.specs.declared.Value.{Value}
-use Rattle.bill_table.specs.declared.Total.TheVariants.{Sum}
+use Rattle.bill_table.specs.Total.{Sum}
 use Rattle.bill_table.proofs.Exact.{totals-exact, total-exactly}
 use Rattle.report_lines.specs.Lines.{line}
 use Rattle.report.specs.Report.{value_text}

@@ -1,5 +1,5 @@
 -- The report (01, "Recording and report"): its lines, in order, and their text.
-use Rattle.std.specs.Prelude.{ℕ, suc, cond, List, [], ◌∷◌, ◌++◌, eqb}
+use Rattle.std.specs.Prelude.{ℕ, suc, cond, List, [], ◌∷◌, ◌++◌, eqb, Err}
 use Rattle.numbers.specs.Decimal.{decimal}
 use Rattle.dispenser_rules.specs.declared.account.Cassettes.{Cassettes}
 use Rattle.dispenser_rules.specs.declared.errors.LastErrors.{LastErrors}
@@ -8,16 +8,16 @@ use Rattle.bill_table.specs.Worth.{total_of}
 use Rattle.bill_table.specs.declared.Letters.{Letters}
 use Rattle.bill_table.specs.declared.Word.{Word}
 use Rattle.bill_table.specs.declared.Value.{Value}
-use Rattle.bill_table.specs.declared.Total.{Total}
-use Rattle.bill_table.specs.declared.Total.TheVariants.{NoValue, Sum, Refused}
+use Rattle.bill_table.specs.Total.{Total}
+use Rattle.bill_table.specs.Total.{NoValue, Sum, Refused}
 use Rattle.recording.specs.Record.{fault_number}
 use Rattle.recording.specs.declared.Fault.{Fault}
 use Rattle.report_lines.specs.Text.{bytes_of}
 use Rattle.report_lines.specs.Lines.{field, lines, sums_line, error_line}
 use Rattle.validator_rules.specs.declared.bills.Bills.{Bills}
 use Rattle.grading_rules.specs.Feeding.{replay_of}
-use Rattle.grading_rules.specs.declared.findings.Ending.{Ending}
-use Rattle.grading_rules.specs.declared.findings.Ending.TheVariants.{Good, Bad}
+use Rattle.recording.specs.Verdict.{Verdict}
+use Rattle.recording.specs.Verdict.{Good}
 use Rattle.grading_rules.specs.declared.findings.Findings.{Findings}
 
 -- letters between two spaces
@@ -58,9 +58,9 @@ good_lines a es bs t declined records = cassette_lines a es ++ (field "declined 
 abbrev pub bad_line : Fault → ℕ → List ℕ
 bad_line why at = field "bad " (fault_number why) ++ field " at " at
 
-abbrev pub lines_in : Ending → Findings → List (List ℕ)
+abbrev pub lines_in : Verdict → Findings → List (List ℕ)
 lines_in Good f = good_lines f.account.cassettes f.errors f.bills f.table f.declined f.records
-lines_in (Bad why at) f = bad_line why at ∷ []
+lines_in (Err x) f = bad_line x.fault x.at ∷ []
 
 -- the report of what a replay left
 unfoldable pub report_text : Findings → List ℕ

@@ -10,10 +10,10 @@ ghost use Rattle.report_lines.specs.Lines.{field, line, lines};
 ghost use Rattle.report_lines.specs.Scaffolding.{Adds};
 ghost use Rattle.report.specs.Report.{value_text, value_line, type_line, type_lines, cassette_lines, good_lines, bad_line, report_text, report_of};
 
-use bill_table::{Total, Value, Word, total_of, word_at};
+use bill_table::{Letters, Value, Word, total_of, word_at};
 use dispenser_rules::{Cassettes, LastErrors};
 use grading::replay;
-use grading_rules::{Ending, Findings};
+use grading_rules::Findings;
 use recording::Fault;
 use refusals::{Put, Refusal};
 use report_lines::{put, put_digits, put_error, put_field, put_line, put_sums};
@@ -42,10 +42,7 @@ fn put_value(value: Value, text: &mut [u8], at: usize) -> usize
     ensures adds { Adds text.old at (line (value_text value)) text.new result }
     ensures upper_bound { result ≤ at + 31 }
 {
-    let letters = value.letters;
-    let one = letters.0;
-    let two = letters.1;
-    let three = letters.2;
+    let Letters(one, two, three) = value.letters;
     let a = put(b"value ", text, at);
     let b = put_digits(value.whole, text, a);
     let c = put(&[b' ', one, two, three, b' '], text, b);
@@ -60,9 +57,9 @@ fn put_worth(word: Word, n: u32, text: &mut [u8], at: usize) -> usize
     ensures upper_bound { result ≤ at + 31 }
 {
     match total_of(word, n) {
-        Total::NoValue => at,
-        Total::Sum(value) => put_value(value, text, at),
-        Total::Refused(_) => at,
+        Ok(None) => at,
+        Ok(Some(value)) => put_value(value, text, at),
+        Err(_) => at,
     }
 }
 
@@ -87,12 +84,9 @@ fn put_types(bills: [Bills; 24], table: &[u8; 120], text: &mut [u8], at: usize) 
     ensures upper_bound { result ≤ at + 1_344 }
 {
     let mut end = at;
-    let mut y: usize = 0;
-    while y < 24 {
-        let n = bills[y];
+    for (y, &n) in bills.iter().enumerate() {
         let word = word_at(table, y);
         end = put_type(word, y as u32, n, text, end);
-        y += 1;
     }
     end
 }
@@ -103,14 +97,10 @@ fn put_cassettes(cassettes: Cassettes, errors: LastErrors, text: &mut [u8]) -> u
     ensures adds { Adds text.old 0 (lines (cassette_lines cassettes errors)) text.new result }
     ensures upper_bound { result ≤ 356 }
 {
-    let upper = cassettes.upper;
-    let lower = cassettes.lower;
-    let upper_error = errors.upper;
-    let lower_error = errors.lower;
-    let a = put_sums(b"upper", upper, text, 0);
-    let b = put_sums(b"lower", lower, text, a);
-    let c = put_error(b"upper last error ", upper_error, text, b);
-    put_error(b"lower last error ", lower_error, text, c)
+    let a = put_sums(b"upper", cassettes.upper, text, 0);
+    let b = put_sums(b"lower", cassettes.lower, text, a);
+    let c = put_error(b"upper last error ", errors.upper, text, b);
+    put_error(b"lower last error ", errors.lower, text, c)
 }
 
 // Adds the report of a good recording.
@@ -149,17 +139,17 @@ fn put_report(f: Findings, text: &mut [u8]) -> usize
     ensures adds { Adds text.old 0 (report_text f) text.new result }
     ensures upper_bound { result ≤ longest }
 {
-    let account = f.account;
-    let cassettes = account.cassettes;
-    let errors = f.errors;
-    let bills = f.bills;
-    let table = f.table;
-    let ending = f.ending;
-    match ending {
-        Ending::Good => put_good(
-            cassettes, errors, bills, &table, f.declined, f.records, text,
+    match f.ending {
+        Ok(()) => put_good(
+            f.account.cassettes,
+            f.errors,
+            f.bills,
+            &f.table,
+            f.declined,
+            f.records,
+            text,
         ),
-        Ending::Bad(why, at) => put_bad(why, at, text),
+        Err(bad) => put_bad(bad.fault, bad.at, text),
     }
 }
 
@@ -168,14 +158,11 @@ fn lay(bytes: &[u8], room: &mut [u8]) -> Put
     ensures { written result room.new ≡ writing bytes.now room.old }
 {
     if room.len() < bytes.len() {
-        return Put::Refused(Refusal::Room);
+        return Err(Refusal::Room);
     }
-    let mut i: usize = 0;
-    while i < bytes.len() {
-        room[i] = bytes[i];
-        i += 1;
-    }
-    Put::Bytes(i)
+    let n = bytes.len();
+    room[..n].copy_from_slice(bytes);
+    Ok(n)
 }
 
 // The report of what a replay left, at the start of the room. A room of LONGEST bytes is always enough.

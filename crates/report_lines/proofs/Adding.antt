@@ -10,8 +10,8 @@ use lib.Seq.{take-suc, take-suc-set, take_all}
 use borrow.Author.Tests.{le-ltb}
 use Rattle.numbers.specs.Decimal.{decimal}
 use Rattle.refusals.specs.Put.{written, writing, laid}
-use Rattle.refusals.specs.declared.Put.{Put}
-use Rattle.refusals.specs.declared.Put.TheVariants.{Bytes, Refused}
+use Rattle.refusals.specs.Put.{Put}
+use Rattle.refusals.specs.Put.{Bytes, Refused}
 use Rattle.refusals.specs.declared.Refusal.{Refusal}
 use Rattle.numbers.proofs.Decimal.{length-decimal, width-least}
 use Rattle.refusals.proofs.Writing.{take-over}

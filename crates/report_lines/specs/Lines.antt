@@ -3,8 +3,8 @@ use Rattle.std.specs.Prelude.{ℕ, List, [], ◌∷◌, ◌++◌}
 use Prim.Native.String.{String}
 use Rattle.numbers.specs.Decimal.{decimal}
 use Rattle.exchange_rules.specs.declared.notes.Sums.{Sums}
-use Rattle.dispenser_rules.specs.declared.errors.LastError.{LastError}
-use Rattle.dispenser_rules.specs.declared.errors.LastError.TheVariants.{NoneYet, Of}
+use Rattle.dispenser_rules.specs.LastError.{LastError}
+use Rattle.dispenser_rules.specs.LastError.{NoneYet, Of}
 use Rattle.error_codes.specs.Errors.{class_name}
 use Rattle.report_lines.specs.Text.{bytes_of}
 

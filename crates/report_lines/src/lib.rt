@@ -8,23 +8,18 @@ ghost use Rattle.report_lines.specs.Text.{bytes_of};
 ghost use Rattle.report_lines.specs.Lines.{line, paid_part, unpaid_part, sums_line, last_name, error_line};
 ghost use Rattle.report_lines.specs.Scaffolding.{Adds};
 
-use dispenser_rules::LastError;
 use error_codes::ErrorClass;
 use exchange_rules::Sums;
 use numbers::write_decimal;
-use refusals::Put;
 
 // Adds bytes behind those that stand before a place, and says where they end.
 pub fn put(bytes: &[u8], text: &mut [u8], at: usize) -> usize
     requires { at + length bytes.now ≤ length text.old }
     ensures { Adds text.old at bytes.now text.new result }
 {
-    let mut i: usize = 0;
-    while i < bytes.len() {
-        text[at + i] = bytes[i];
-        i += 1;
-    }
-    at + i
+    let end = at + bytes.len();
+    text[at..end].copy_from_slice(bytes);
+    end
 }
 
 // Adds a number, in decimal: at most twenty digits.
@@ -34,8 +29,8 @@ pub fn put_digits(n: u64, text: &mut [u8], at: usize) -> usize
 {
     let mut digits = [0u8; 20];
     match write_decimal(n, &mut digits) {
-        Put::Bytes(k) => put(&digits[0..k], text, at),
-        Put::Refused(_) => at,
+        Ok(k) => put(&digits[0..k], text, at),
+        Err(_) => at,
     }
 }
 
@@ -75,15 +70,11 @@ fn put_paid(name: &[u8], s: Sums, text: &mut [u8], at: usize) -> usize
     ensures adds { Adds text.old at (paid_part name.now s) text.new result }
     ensures upper_bound { result ≤ at + 71 }
 {
-    let asked = s.asked;
-    let paid = s.paid;
-    let short = s.short;
-    let over = s.over;
     let a = put(name, text, at);
-    let b = put_field(b" asked ", asked.0, text, a);
-    let c = put_field(b" paid ", paid.0, text, b);
-    let d = put_field(b" short ", short.0, text, c);
-    put_field(b" over ", over.0, text, d)
+    let b = put_field(b" asked ", s.asked.0, text, a);
+    let c = put_field(b" paid ", s.paid.0, text, b);
+    let d = put_field(b" short ", s.short.0, text, c);
+    put_field(b" over ", s.over.0, text, d)
 }
 
 // Adds the second part: refused, unknown, open and rejected.
@@ -92,14 +83,10 @@ fn put_unpaid(s: Sums, text: &mut [u8], at: usize) -> usize
     ensures adds { Adds text.old at (unpaid_part s) text.new result }
     ensures upper_bound { result ≤ at + 74 }
 {
-    let refused = s.refused;
-    let unknown = s.unknown;
-    let pending = s.pending;
-    let rejected = s.rejected;
-    let a = put_field(b" refused ", refused.0, text, at);
-    let b = put_field(b" unknown ", unknown.0, text, a);
-    let c = put_field(b" open ", pending.0, text, b);
-    put_field(b" rejected ", rejected.0, text, c)
+    let a = put_field(b" refused ", s.refused.0, text, at);
+    let b = put_field(b" unknown ", s.unknown.0, text, a);
+    let c = put_field(b" open ", s.pending.0, text, b);
+    put_field(b" rejected ", s.rejected.0, text, c)
 }
 
 // Adds the line of a cassette.
@@ -132,19 +119,19 @@ fn put_class(class: ErrorClass, text: &mut [u8], at: usize) -> usize
 }
 
 // Adds the name of a last error.
-fn put_name(last: LastError, text: &mut [u8], at: usize) -> usize
+fn put_name(last: Option<ErrorClass>, text: &mut [u8], at: usize) -> usize
     requires { at + 14 ≤ length text.old }
     ensures adds { Adds text.old at (bytes_of (last_name last)) text.new result }
     ensures upper_bound { result ≤ at + 14 }
 {
     match last {
-        LastError::NoneYet => put(b"none", text, at),
-        LastError::Of(class) => put_class(class, text, at),
+        None => put(b"none", text, at),
+        Some(class) => put_class(class, text, at),
     }
 }
 
 // Adds the line of a cassette's last error.
-pub fn put_error(name: &[u8], last: LastError, text: &mut [u8], at: usize) -> usize
+pub fn put_error(name: &[u8], last: Option<ErrorClass>, text: &mut [u8], at: usize) -> usize
     requires { at + length name.now + 15 ≤ length text.old }
     ensures adds { Adds text.old at (line (error_line name.now last)) text.new result }
     ensures upper_bound { result ≤ at + length name.now + 15 }

@@ -2,7 +2,7 @@
 // each; a bad recording gets the one line of its report. A file that cannot be opened or read, or an argument that is no path, gets one line on standard error.
 #![tactic(auto)]
 
-use grading_rules::{Ending, Findings};
+use grading_rules::Findings;
 use std::io;
 use std::io::{Read, Write};
 
@@ -71,9 +71,8 @@ fn list_from<R: Read>(rt: HostRuntime, input: &mut R, name: &[u8], piece: &mut [
 fn show<W: Write>(out: &mut W, found: Findings) -> io::Result<()> {
     let account = found.account;
     let requests = account.requests;
-    let ending = found.ending;
-    match ending {
-        Ending::Good => spoken::requests(out, requests),
-        Ending::Bad(_, _) => spoken::report(out, found),
+    match found.ending {
+        Ok(()) => spoken::requests(out, requests),
+        Err(_) => spoken::report(out, found),
     }
 }

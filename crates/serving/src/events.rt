@@ -1,10 +1,11 @@
 // Events, one after the other.
 use crate::{guard, lines};
 use dispenser_books::pays;
-use filter::Event;
+use filter::NoRecord;
 use grading_rules::Desk;
-use live_rules::{Entered, Entry};
+use live_rules::{Entered, NotEntered};
 use recording::{Reader, Record};
+use refusals::Done;
 use std::fs::File;
 use std::io;
 use std::io::Write;
@@ -32,11 +33,16 @@ pub fn run(rt: HostRuntime, file: &mut File, desk: Desk, written: u32, quiet: u3
 // Every event.
 fn each(rt: HostRuntime, file: &mut File, work: Work) {
     let mut now = work;
-    for _ in 0..filter::TURNS {
-        let event = filter::next(&mut rt.stdin());
-        let Event::Whole(x) = event else {
-            ended(rt, event);
-            return;
+    for _ in 0..u64::MAX {
+        let x = match filter::next(&mut rt.stdin()) {
+            Ok(Some(x)) => x,
+            Ok(None) => {
+                return;
+            }
+            Err(why) => {
+                failed(rt, why);
+                return;
+            }
         };
         let next = taken(rt, file, now, x);
         now = next;
@@ -48,19 +54,18 @@ fn each(rt: HostRuntime, file: &mut File, work: Work) {
     }
 }
 
-// No further event: the input has ended, is bad or cannot be read.
-fn ended(rt: HostRuntime, event: Event) {
-    match event {
-        Event::Bad(why) => {
+// The input is bad or cannot be read.
+fn failed(rt: HostRuntime, why: NoRecord) {
+    match why {
+        NoRecord::Bad(why) => {
             let number = why.number();
             let _ = eprintln!(rt; "standard input: bad {number}");
             lines::failed(rt);
         }
-        Event::Failed(why) => {
+        NoRecord::Failed(why) => {
             files::fail(&mut rt.stderr(), b"standard input", why);
             lines::failed(rt);
         }
-        _ => {}
     }
 }
 
@@ -136,8 +141,8 @@ fn told(
 // Is a frame that pays to be sent? It has more bytes than one, of which the fourth is its code.
 fn is_paying(reply: dispenser_rules::Reply, room: &[u8; 16]) -> bool {
     match reply {
-        dispenser_rules::Reply::NotDone(_) => false,
-        dispenser_rules::Reply::Done { put, closing: _ } => {
+        Err(_) => false,
+        Ok(Done { put, .. }) => {
             if 1 < put {
                 return pays(room[3]);
             }
@@ -150,23 +155,23 @@ fn is_paying(reply: dispenser_rules::Reply, room: &[u8; 16]) -> bool {
 fn kept(
     rt: HostRuntime,
     file: &mut File,
-    entry: Entry,
+    entry: Result<usize, NotEntered>,
     out: &[u8; 16],
     written: u32,
     paying: bool,
 ) -> usize {
     match entry {
-        Entry::Bytes(n) => {
+        Ok(n) => {
             if write_down(rt, file, out, n, written, paying) {
                 return n;
             }
             0
         }
-        Entry::Refused(_) => {
+        Err(NotEntered::Refused(_)) => {
             let _ = eprintln!(rt; "a record that no recording can hold");
             0
         }
-        Entry::Full => {
+        Err(NotEntered::Full) => {
             let _ = eprintln!(rt; "the recording is full: begin a new one");
             0
         }

@@ -2,7 +2,7 @@
 use grading_rules::Desk;
 use live_rules::Lived;
 use recording::Record;
-use refusals::Declined;
+use refusals::{Declined, Done};
 use sheet::{print_form, print_text};
 use std::io;
 use std::io::Write;
@@ -32,8 +32,8 @@ pub(crate) fn to_dispenser(
     room: &[u8; 16],
 ) {
     match reply {
-        dispenser_rules::Reply::NotDone(why) => declined(rt, why),
-        dispenser_rules::Reply::Done { put, closing: _ } => {
+        Err(why) => declined(rt, why),
+        Ok(Done { put, .. }) => {
             if paying {
                 let _ = filter::send(&mut rt.stdout(), b"send dispenser paying", put, room);
                 return;
@@ -45,8 +45,8 @@ pub(crate) fn to_dispenser(
 
 pub(crate) fn to_validator(rt: HostRuntime, reply: validator_rules::Reply, room: &[u8; 255]) {
     match reply {
-        validator_rules::Reply::NotDone(why) => declined(rt, why),
-        validator_rules::Reply::Done { put, closing: _ } => {
+        Err(why) => declined(rt, why),
+        Ok(Done { put, .. }) => {
             let _ = filter::send(&mut rt.stdout(), b"send validator", put, room);
         }
     }

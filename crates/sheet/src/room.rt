@@ -1,4 +1,4 @@
-// The room that is lent to a plain writer: 24 bytes, of which it is given so many from the start. Each holds the same byte at first, so
+// The room that is lent to a plain writer, of which it is given so many bytes from the start. Each holds the same byte at first, so
 // that it shows whether a call left it as it was.
 ghost use Rattle.std.specs.Prelude.{◌≡◌, ◌≤◌, length, IfOk};
 
@@ -9,18 +9,17 @@ use std::io::Write;
 
 const FILL: u8 = 0xA5;
 
-// More than the longest frame, an answer of 21 bytes.
-pub fn short_room() -> [u8; 24]
-    ensures { 24 ≡ length result }
-{
-    [FILL; 24]
-}
+// More than the longest frame of the dispenser's, an answer of 21 bytes.
+pub const SHORT: usize = 24;
 
 // More than the longest CCNET frame, of 255 bytes.
-pub fn long_room() -> [u8; 300]
-    ensures { 300 ≡ length result }
+pub const LONG: usize = 300;
+
+// A room of N bytes.
+pub fn fresh_room<const N: usize>() -> [u8; N]
+    ensures { N ≡ length result }
 {
-    [FILL; 300]
+    [FILL; N]
 }
 
 // n, but at most the length of the room.
@@ -28,7 +27,7 @@ pub fn at_most(n: usize, room: &[u8]) -> usize
     ensures upper_bound { result ≤ n }
     ensures upper_bound_2 { result ≤ length room.now }
 {
-    if n < room.len() { n } else { room.len() }
+    n.min(room.len())
 }
 
 // What a plain writer answered, the bytes that it put, and whether every other byte of the room is what it was. Says how many bytes it put.
@@ -36,8 +35,8 @@ pub fn print_put<W: Write>(out: &mut W, put: Put, room: &[u8]) -> io::Result<usi
     ensures { IfOk result (λ n. n ≤ length room.now) }
 {
     match put {
-        Put::Bytes(n) => print_laid(out, n, room),
-        Put::Refused(why) => print_refused(out, why.number(), room),
+        Ok(n) => print_laid(out, n, room),
+        Err(why) => print_refused(out, why.number(), room),
     }
 }
 
@@ -89,12 +88,5 @@ fn print_kept<W: Write>(out: &mut W, room: &[u8], from: usize) -> io::Result<()>
 
 // Is every byte from a place on what it was?
 fn kept(room: &[u8], from: usize) -> bool {
-    let mut i = from;
-    while i < room.len() {
-        if room[i] != FILL {
-            return false;
-        }
-        i += 1;
-    }
-    true
+    room.iter().skip(from).all(|&b| b == FILL)
 }

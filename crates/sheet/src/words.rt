@@ -13,14 +13,10 @@ pub fn past(s: &[u8], from: usize, b: u8) -> usize
     ensures upper_bound { result ≤ length s.now }
     ensures lower_bound_2 { from < length s.now → from < result }
 {
-    let mut i = from;
-    while i < s.len() {
-        if s[i] == b {
-            return i + 1;
-        }
-        i += 1;
+    match s[from..].iter().position(|&x| x == b) {
+        Some(k) => from + k + 1,
+        None => s.len(),
     }
-    s.len()
 }
 
 // The place past the line that stands at a place.
@@ -29,20 +25,19 @@ pub fn line_end(all: &[u8], at: usize) -> usize
     ensures lower_bound { at < length all.now → at < result }
 {
     if at < all.len() {
-        return past(all, at, b'\n');
+        past(all, at, b'\n')
+    } else {
+        all.len()
     }
-    all.len()
 }
 
 // Where the part stands that has so many before it, each ended by b.
 pub fn part(s: &[u8], before: usize, b: u8) -> usize
     ensures { result ≤ length s.now }
 {
-    let mut at: usize = 0;
-    let mut k: usize = 0;
-    while k < before {
+    let mut at = 0;
+    for _ in 0..before {
         at = past(s, at, b);
-        k += 1;
     }
     at
 }
@@ -56,11 +51,7 @@ fn word(line: &[u8], before: usize) -> usize
 
 // The first letter of a word; 0 where the line has no such word.
 pub fn letter(line: &[u8], before: usize) -> u8 {
-    let at = word(line, before);
-    if at < line.len() {
-        return line[at];
-    }
-    0
+    line.get(word(line, before)).copied().unwrap_or(0)
 }
 
 // The byte that a word says in hex.
@@ -70,10 +61,7 @@ pub fn byte(line: &[u8], before: usize) -> u8 {
 
 // The byte that is said at a place.
 pub fn byte_at(line: &[u8], at: usize) -> u8 {
-    if line.len() <= at {
-        return 0;
-    }
-    if line.len() - at < 2 {
+    if line.len() < 2 || line.len() - 2 < at {
         return 0;
     }
     byte_of(line[at], line[at + 1])
@@ -86,18 +74,12 @@ pub fn number(line: &[u8], before: usize) -> u32 {
 
 // The number that is said at a place.
 pub fn number_at(line: &[u8], at: usize) -> u32 {
-    let mut i = at;
-    let mut n: u64 = 0;
-    while i < line.len() {
-        let b = line[i];
-        if b < 0x30 {
+    let mut n = 0;
+    for &b in line.iter().skip(at) {
+        if !b.is_ascii_digit() {
             break;
         }
-        if 0x39 < b {
-            break;
-        }
-        n = more(n, b - 0x30);
-        i += 1;
+        n = more(n, b - b'0');
     }
     (n % 4_294_967_296) as u32
 }
@@ -106,25 +88,16 @@ pub fn number_at(line: &[u8], at: usize) -> u32 {
 pub fn size(line: &[u8], most: usize) -> usize
     ensures { result ≤ most }
 {
-    if !is_room(line, word(line, 2)) {
-        return most;
+    if is_room(line, word(line, 2)) {
+        most.min(number(line, 3) as usize)
+    } else {
+        most
     }
-    let n = number(line, 3) as usize;
-    if n < most { n } else { most }
 }
 
 // Does the word at a place begin as room does?
 fn is_room(line: &[u8], at: usize) -> bool {
-    if line.len() < 2 {
-        return false;
-    }
-    if line.len() - 2 < at {
-        return false;
-    }
-    if line[at] != b'r' {
-        return false;
-    }
-    line[at + 1] == b'o'
+    at <= line.len() && line[at..].starts_with(b"ro")
 }
 
 // The number that digits say with one more of them.
@@ -138,21 +111,6 @@ pub fn print_line<W: Write>(out: &mut W, line: &[u8]) -> io::Result<()> {
     let end = past(line, 0, b'\n');
     if 0 < end {
         print::print_text(out, &line[0..end - 1])?;
-    }
-    Ok(())
-}
-
-// One of several forms, each ended by a bar: the one that has so many before it.
-pub fn print_one<W: Write>(
-    out: &mut W,
-    forms: &[u8],
-    before: usize,
-    values: &[u32],
-) -> io::Result<()> {
-    let at = part(forms, before, b'|');
-    let end = past(forms, at, b'|');
-    if at < end {
-        print::print_form(out, &forms[at..end - 1], values)?;
     }
     Ok(())
 }
@@ -190,10 +148,8 @@ pub fn frame_from(line: &[u8], first: usize, store: &mut [u8]) -> usize
         return 0;
     }
     let n = room::at_most(all - first, store);
-    let mut k: usize = 0;
-    while k < n {
-        store[k] = frame_byte(line, first + k);
-        k += 1;
+    for (k, b) in store[..n].iter_mut().enumerate() {
+        *b = frame_byte(line, first + k);
     }
     n
 }

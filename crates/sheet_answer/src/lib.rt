@@ -12,12 +12,12 @@ pub fn print_answer<W: Write>(out: &mut W, answer: Answer) -> io::Result<()> {
     match answer {
         Answer::Purged { error } => sheet::print_form(out, b" $ error $", &[code, error as u32]),
         Answer::PaidOne {
-            cassette: _,
             chk,
             exit,
             error,
             state,
             rejects,
+            ..
         } => sheet::print_form(
             out,
             b" $ CHK # EXIT # error $ state $ rejects #",
@@ -50,11 +50,11 @@ pub fn print_answer<W: Write>(out: &mut W, answer: Answer) -> io::Result<()> {
             ],
         ),
         Answer::Tested {
-            cassette: _,
             chk,
             error,
             state,
             rejects,
+            ..
         } => sheet::print_form(
             out,
             b" $ CHK # error $ state $ rejects #",

@@ -1,7 +1,9 @@
 // The device's end: the pretend dispenser, and what came of each call.
 ghost use Rattle.std.specs.Prelude.{◌≤◌};
 
-use crate::{moves, way};
+use crate::moves;
+use crate::moves::Move;
+use crate::ways::Way;
 use dispenser_frame_rules::Answer;
 use pretend_rules::{Device, Happening, Outcome, Reply};
 use std::io;
@@ -19,41 +21,28 @@ pub fn moved<W: Write>(
     out: &mut W,
     word: &[u8],
     device: Device,
-    down: &mut [usize],
-    up: &mut [usize],
+    down: &mut Way,
+    up: &mut Way,
 ) -> io::Result<Device> {
-    let what = moves::what(b'd', word);
+    let Some(what) = moves::what(b'd', word) else {
+        return Ok(device);
+    };
     let mut now = device;
-    let mut left = moves::calls(what, word, down, up);
-    while 0 < left {
-        now = one(
-            out,
-            what,
-            call_of(what, word, left, down),
-            size(what, up),
-            now,
-            up,
-        )?;
-        left -= 1;
+    for left in (1..=moves::calls(what, word, down, up)).rev() {
+        now = one(out, what, call_of(what, word, left, down), now, up)?;
     }
     Ok(now)
 }
 
 // The call that has so many behind it, itself among them.
-fn call_of(what: u8, word: &[u8], left: u32, down: &mut [usize]) -> Call {
-    if what == b'h' {
-        return Call::Byte(way::next(down));
+fn call_of(what: Move, word: &[u8], left: u32, down: &mut Way) -> Call {
+    match what {
+        Move::Hear => Call::Byte(down.next()),
+        Move::Wait => Call::Tick(moves::number(word, 0)),
+        Move::Tell => Call::Tell(moves::answer(word)),
+        Move::Alone => purge(left % moves::PURGE),
+        _ => Call::Byte(moves::byte(word, 0)),
     }
-    if what == b'w' {
-        return Call::Tick(moves::number(word, 0));
-    }
-    if what == b't' {
-        return Call::Tell(moves::answer(word));
-    }
-    if what == b'm' {
-        return purge(left % moves::PURGE);
-    }
-    Call::Byte(moves::byte(word, 0))
 }
 
 // Of an exchange with the device alone, by how many calls of it are left, and 0 for all.
@@ -66,62 +55,47 @@ fn purge(left: u32) -> Call {
 }
 
 // How much room is lent: in an exchange with the device alone, enough.
-fn size(what: u8, up: &[usize]) -> usize
+fn size(what: Move, up: &Way) -> usize
     ensures { result ≤ 24 }
 {
-    if what == b'm' {
-        return 24;
+    if what == Move::Alone {
+        sheet::SHORT
+    } else {
+        up.room()
     }
-    way::room(up)
 }
 
-// Makes a call, and shows what it answered; what it put is on its way.
+// Makes a call, and shows what it answered; what it put is on its way. Of an exchange with the device alone nothing is shown.
 fn one<W: Write>(
     out: &mut W,
-    what: u8,
+    what: Move,
     call: Call,
-    size: usize,
     device: Device,
-    up: &mut [usize],
-) -> io::Result<Device>
-    requires { size ≤ 24 }
-{
-    let mut lent = sheet::short_room();
-    let outcome = made(call, device, &mut lent[0..size]);
-    let reply = outcome.reply;
-    show(out, what, reply, &lent, up)?;
+    up: &mut Way,
+) -> io::Result<Device> {
+    let mut lent = sheet::fresh_room::<{ sheet::SHORT }>();
+    let outcome = made(call, device, &mut lent[..size(what, up)]);
+    if what != Move::Alone {
+        show(out, outcome.reply, &lent, up)?;
+    }
     Ok(outcome.device)
 }
 
 fn made(call: Call, device: Device, lent: &mut [u8]) -> Outcome {
     match call {
-        Call::Byte(b) => return pretend::byte(device, b, lent),
-        Call::Tick(ms) => return pretend::tick(device, ms, lent),
-        Call::Tell(answer) => return pretend::tell(device, answer, lent),
+        Call::Byte(b) => pretend::byte(device, b, lent),
+        Call::Tick(ms) => pretend::tick(device, ms, lent),
+        Call::Tell(answer) => pretend::tell(device, answer, lent),
     }
 }
 
-// Of an exchange with the device alone nothing is shown.
-fn show<W: Write>(
-    out: &mut W,
-    what: u8,
-    reply: Reply,
-    lent: &[u8],
-    up: &mut [usize],
-) -> io::Result<()> {
-    if what == b'm' {
-        return Ok(());
-    }
+fn show<W: Write>(out: &mut W, reply: Reply, lent: &[u8], up: &mut Way) -> io::Result<()> {
     match reply {
-        Reply::NotDone(why) => sheet::print_form(
-            out,
-            b"device refused #\n",
-            &[why.number() as u32],
-        ),
-        Reply::Done { put, what } => {
-            way::put_on(out, b"device puts", put, lent, up)?;
-            happened(out, what)
+        Ok(done) => {
+            up.put_on(out, b"device puts", done.put, lent)?;
+            happened(out, done.closing)
         }
+        Err(why) => sheet::print_form(out, b"device refused #\n", &[why.number() as u32]),
     }
 }
 

@@ -4,6 +4,7 @@
 
 mod device;
 pub mod moves;
-pub mod way;
+mod ways;
 
 pub use device::moved;
+pub use ways::Way;

@@ -4,40 +4,58 @@
 //
 // The first letter of a word is the end, the second what happens there: a asked, c cleared, w so many milliseconds pass, h the next bytes on their way arrive, l they are lost, x a byte
 // arrives that nobody sent, r so much room is lent from now on, t told an answer's fields, m so many exchanges with the device alone.
-use crate::way;
+use crate::ways::Way;
 use dispenser_frame_rules::{Answer, Cassette};
 
 // Does the line begin with run?
 pub fn is_run(line: &[u8]) -> bool {
-    if line.len() < 3 {
-        return false;
-    }
-    if line[0] != b'r' {
-        return false;
-    }
-    if line[1] != b'u' {
-        return false;
-    }
-    line[2] == b'n'
+    line.starts_with(b"run")
 }
 
-// What happens in a word, where it is this end's; else 0.
-pub fn what(end: u8, word: &[u8]) -> u8 {
-    if word.len() < 2 {
-        return 0;
+// What happens at an end.
+#[derive(Clone, Copy, PartialEq, Eq)]
+pub enum Move {
+    Ask,
+    // Any letter that names no other move is this one.
+    Clear,
+    Wait,
+    Hear,
+    Lose,
+    Stray,
+    Lend,
+    Tell,
+    Alone,
+}
+
+// What happens in a word, where it is this end's.
+pub fn what(end: u8, word: &[u8]) -> Option<Move> {
+    match word {
+        [first, letter, ..] if *first == end && *letter != 0 => Some(named(*letter)),
+        _ => None,
     }
-    if word[0] == end {
-        return word[1];
+}
+
+fn named(letter: u8) -> Move {
+    match letter {
+        b'a' => Move::Ask,
+        b'w' => Move::Wait,
+        b'h' => Move::Hear,
+        b'l' => Move::Lose,
+        b'x' => Move::Stray,
+        b'r' => Move::Lend,
+        b't' => Move::Tell,
+        b'm' => Move::Alone,
+        _ => Move::Clear,
     }
-    0
 }
 
 // Where the value stands that has so many before it.
 fn place(word: &[u8], before: usize) -> usize {
     if before == 0 {
-        return 2;
+        2
+    } else {
+        sheet::part(word, before, b',')
     }
-    sheet::part(word, before, b',')
 }
 
 pub fn number(word: &[u8], before: usize) -> u32 {
@@ -50,34 +68,29 @@ pub fn byte(word: &[u8], before: usize) -> u8 {
 
 // How often, as a place says; once where it says nothing.
 fn times(word: &[u8], at: usize) -> u32 {
-    if at < word.len() {
-        if b'0' <= word[at] {
-            return sheet::number_at(word, at);
-        }
+    if at < word.len() && b'0' <= word[at] {
+        sheet::number_at(word, at)
+    } else {
+        1
     }
-    1
 }
 
 // How many calls a move makes at the end that hears one way and puts on the other. A move that is no call is made at once.
-pub fn calls(what: u8, word: &[u8], hears: &mut [usize], puts: &mut [usize]) -> u32 {
-    if what == b'h' {
-        return way::ahead(hears, times(word, 2));
+pub fn calls(what: Move, word: &[u8], hears: &mut Way, puts: &mut Way) -> u32 {
+    match what {
+        Move::Hear => hears.ahead(times(word, 2)),
+        Move::Wait => times(word, sheet::part(word, 1, b'x')),
+        Move::Lose => {
+            hears.lose(times(word, 2));
+            0
+        }
+        Move::Lend => {
+            puts.lend(number(word, 0));
+            0
+        }
+        Move::Alone => number(word, 0) % 100_000_000 * PURGE,
+        Move::Ask | Move::Clear | Move::Stray | Move::Tell => 1,
     }
-    if what == b'w' {
-        return times(word, sheet::part(word, 1, b'x'));
-    }
-    if what == b'l' {
-        way::lose(hears, times(word, 2));
-        return 0;
-    }
-    if what == b'r' {
-        way::lend(puts, number(word, 0));
-        return 0;
-    }
-    if what == b'm' {
-        return number(word, 0) % 100_000_000 * PURGE;
-    }
-    if what == 0 { 0 } else { 1 }
 }
 
 // The calls of an exchange with the device alone: a purge arrives, its answer is told, and 06h arrives.
@@ -85,31 +98,20 @@ pub const PURGE: u32 = 8;
 
 // The answer that a telling gives: its code, and its fields in 01's order without the fixed bytes.
 pub fn answer(word: &[u8]) -> Answer {
-    let code = byte(word, 0);
-    if code == 0x45 {
-        return paid_one(word, Cassette::Upper);
-    }
-    if code == 0x55 {
-        return paid_one(word, Cassette::Lower);
-    }
-    if code == 0x56 {
-        return paid_both(word);
-    }
-    if code == 0x76 {
-        return tested(word, Cassette::Upper);
-    }
-    if code == 0x77 {
-        return tested(word, Cassette::Lower);
-    }
-    if code == 0x46 {
-        return Answer::Status {
+    match byte(word, 0) {
+        0x45 => paid_one(word, Cassette::Upper),
+        0x55 => paid_one(word, Cassette::Lower),
+        0x56 => paid_both(word),
+        0x76 => tested(word, Cassette::Upper),
+        0x77 => tested(word, Cassette::Lower),
+        0x46 => Answer::Status {
             error: byte(word, 1),
             sensor0: byte(word, 2),
             sensor1: byte(word, 3),
-        };
-    }
-    Answer::Purged {
-        error: byte(word, 1),
+        },
+        _ => Answer::Purged {
+            error: byte(word, 1),
+        },
     }
 }
 

@@ -7,8 +7,8 @@
 //     reference end
 #![tactic(auto)]
 
-use parted::{Next, Parted, Whose};
-use recording::{Fault, NextRecord, record_at};
+use parted::{Malformed, Parted, Whose};
+use recording::record_at;
 use sheet::{at_most, print_bytes, print_number, print_text};
 use std::io;
 use std::io::Write;
@@ -22,21 +22,20 @@ pub fn print_parted<W: Write>(
     at: usize,
     records: usize,
 ) -> io::Result<()> {
-    let next = found.next;
-    match next {
-        Next::Rest(whose) => {
+    match found.next {
+        Ok(whose) => {
             let s = at_most(found.at, student);
             let r = at_most(found.at, reference);
             print_rest(out, whose, &student[s..], &reference[r..], at, records)
         }
-        Next::Malformed(whose, why) => print_bad(out, whose, why, at),
+        Err(fault) => print_bad(out, fault, at),
     }
 }
 
-fn print_bad<W: Write>(out: &mut W, whose: Whose, why: Fault, at: usize) -> io::Result<()> {
-    print_whose(out, whose)?;
+fn print_bad<W: Write>(out: &mut W, fault: Malformed, at: usize) -> io::Result<()> {
+    print_whose(out, fault.whose)?;
     print_text(out, b" bad ")?;
-    print_number(out, why.number() as usize)?;
+    print_number(out, fault.why.number() as usize)?;
     print_text(out, b" at ")?;
     print_number(out, at)?;
     print_text(out, b"\n")
@@ -84,11 +83,11 @@ fn print_record<W: Write>(out: &mut W, rest: &[u8]) -> io::Result<()> {
         return print_text(out, b" end");
     }
     match record_at(rest, 0) {
-        NextRecord::Whole(_, n) => {
+        Ok((_, n)) => {
             let end = at_most(n, rest);
             print_bytes(out, &rest[0..end])
         }
         // where they part each has a record or has ended
-        NextRecord::Bad(_) => Ok(()),
+        Err(_) => Ok(()),
     }
 }

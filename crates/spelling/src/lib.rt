@@ -4,5 +4,5 @@
 mod lines;
 mod records;
 
-pub use lines::{Spelled, first, is_sentence, next};
+pub use lines::{Spelled, Unclear, first, is_sentence, next};
 pub use records::said;

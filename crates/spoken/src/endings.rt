@@ -1,9 +1,8 @@
 // What stands at the end of a told recording: a fault, or the requests that are kept; and the report.
 use crate::sentences::{print, say};
 use dispenser_rules::Requests;
-use grading_rules::{Ending, Findings};
+use grading_rules::Findings;
 use recording::Fault;
-use refusals::Put;
 use std::io;
 use std::io::Write;
 use text::Said;
@@ -12,13 +11,12 @@ use text::Said;
 pub fn ending<W: Write>(out: &mut W, found: Findings, bytes: &[u8], held: usize) -> io::Result<()> {
     let account = found.account;
     let all = account.requests;
-    let ending = found.ending;
-    match ending {
-        Ending::Good => {
+    match found.ending {
+        Ok(()) => {
             heading(out, Said::REQUESTS)?;
             requests(out, all)?;
         }
-        Ending::Bad(why, at) => fault(out, why, at, bytes, held)?,
+        Err(bad) => fault(out, bad.fault, bad.at, bytes, held)?,
     }
     heading(out, Said::REPORT)?;
     report(out, found)
@@ -55,7 +53,7 @@ pub fn requests<W: Write>(out: &mut W, all: Requests) -> io::Result<()> {
 pub fn report<W: Write>(out: &mut W, found: Findings) -> io::Result<()> {
     let mut room = [0u8; report::LONGEST];
     match report::write_report(found, &mut room) {
-        Put::Bytes(n) => print(out, &room, n),
-        Put::Refused(_) => Ok(()),
+        Ok(n) => print(out, &room, n),
+        Err(_) => Ok(()),
     }
 }

@@ -1,7 +1,7 @@
 // Records entered and told.
 use dispenser_rules::Reply;
 use grading_rules::Desk;
-use live_rules::Entry;
+use live_rules::NotEntered;
 use recording::{Reader, Record};
 use words::Told;
 
@@ -61,15 +61,15 @@ pub fn enter(live: Live, x: Record, line: &mut [u8]) -> Step {
 }
 
 // The size of the recording behind what was entered. It fits: else the record would not have been entered.
-fn longer(written: u32, entry: Entry) -> u32 {
+fn longer(written: u32, entry: Result<usize, NotEntered>) -> u32 {
     let left = (Reader::MOST - written as u64) as usize;
     match entry {
-        Entry::Bytes(n) => {
+        Ok(n) => {
             if left < n {
                 return written;
             }
             written + n as u32
         }
-        _ => written,
+        Err(_) => written,
     }
 }

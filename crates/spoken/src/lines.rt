@@ -22,7 +22,7 @@ pub enum Run {
 const BYTES: u32 = 1_000;
 
 // What a line is of that begins with a record of which so many bytes are told.
-pub fn begun(x: Record, passing: Passing, told: usize) -> Run {
+pub fn begun(x: Record, passing: Option<Passing>, told: usize) -> Run {
     match x {
         Record::Tick(ms) => {
             if told == 0 {
@@ -31,12 +31,12 @@ pub fn begun(x: Record, passing: Passing, told: usize) -> Run {
             Run::Nothing
         }
         Record::DispenserByte(_) => match passing {
-            Passing::No => Run::Nothing,
-            _ => Run::Dispenser(passing, 1),
+            Some(passing) => Run::Dispenser(passing, 1),
+            None => Run::Nothing,
         },
         Record::ValidatorByte(_) => match passing {
-            Passing::No => Run::Nothing,
-            _ => Run::Validator(passing, 1),
+            Some(passing) => Run::Validator(passing, 1),
+            None => Run::Nothing,
         },
         _ => Run::Nothing,
     }

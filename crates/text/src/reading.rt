@@ -2,10 +2,9 @@
 use crate::sentences::TABLE;
 use crate::writing::row;
 
-// Is it the sentence; where that ends in the line; and its values, of which so many were taken so far.
+// Where a sentence ends in the line, and its values, of which so many were taken so far.
 #[derive(Clone, Copy)]
 pub struct Heard {
-    pub is: bool,
     pub end: usize,
     pub taken: usize,
     pub values: [u64; 4],
@@ -14,17 +13,7 @@ pub struct Heard {
 impl Heard {
     fn from(end: usize) -> Heard {
         Heard {
-            is: true,
             end,
-            taken: 0,
-            values: [0; 4],
-        }
-    }
-
-    fn not() -> Heard {
-        Heard {
-            is: false,
-            end: 0,
             taken: 0,
             values: [0; 4],
         }
@@ -49,149 +38,102 @@ impl Heard {
 }
 
 fn is_blank(b: u8) -> bool {
-    if b == b' ' {
-        return true;
-    }
-    if b == b'\t' {
-        return true;
-    }
-    b == b'\r'
+    matches!(b, b' ' | b'\t' | b'\r')
 }
 
 // The place of the first byte from a place on that is no blank.
 pub fn past_blanks(line: &[u8], from: usize) -> usize {
-    let mut i = from;
-    while i < line.len() {
-        if !is_blank(line[i]) {
-            return i;
-        }
-        i += 1;
-    }
-    i
+    let blank = line.iter().skip(from).take_while(|b| is_blank(**b));
+    from + blank.count()
 }
 
 fn is_digit(b: u8) -> bool {
-    if b < b'0' {
-        return false;
-    }
-    b <= b'9'
+    b.is_ascii_digit()
 }
 
 // The number with one digit more; one of 4,294,967,296 or more stays so.
 fn more(n: u64, b: u8) -> u64 {
     if n < 4_294_967_296 {
-        return n * 10 + (b % 16) as u64;
+        n * 10 + (b % 16) as u64
+    } else {
+        n
     }
-    n
 }
 
 // A number in decimal.
-fn number(line: &[u8], heard: Heard) -> Heard {
-    let from = heard.end;
-    let mut n: u64 = 0;
-    let mut i = from;
-    while i < line.len() {
-        if !is_digit(line[i]) {
-            break;
-        }
-        n = more(n, line[i]);
-        i += 1;
+fn number(line: &[u8], heard: Heard) -> Option<Heard> {
+    let rest = &line[heard.end.min(line.len())..];
+    let count = rest
+        .iter()
+        .position(|b| !is_digit(*b))
+        .unwrap_or(rest.len());
+    if count == 0 {
+        return None;
     }
-    if i == from {
-        return Heard::not();
-    }
-    heard.plus(n, i)
+    let n = rest[..count].iter().fold(0, |n, &b| more(n, b));
+    Some(heard.plus(n, heard.end + count))
 }
 
-// The value of a hex digit, in capitals; 16 where it is none.
-fn digit_of(b: u8) -> u64 {
-    if is_digit(b) {
-        return (b % 16) as u64;
+// The value of a hex digit, in capitals.
+fn digit_of(b: u8) -> Option<u8> {
+    match b {
+        b'0'..=b'9' => Some(b % 16),
+        b'A'..=b'F' => Some(b % 16 + 9),
+        _ => None,
     }
-    if b < b'A' {
-        return 16;
-    }
-    if b <= b'F' {
-        return (b % 16 + 9) as u64;
-    }
-    16
-}
-
-// The byte that two hex digits say.
-fn pair(high: u8, low: u8, heard: Heard, end: usize) -> Heard {
-    let h = digit_of(high);
-    let l = digit_of(low);
-    if 15 < h {
-        return Heard::not();
-    }
-    if 15 < l {
-        return Heard::not();
-    }
-    heard.plus(h * 16 + l, end)
 }
 
 // A byte in hex.
-fn hex(line: &[u8], heard: Heard) -> Heard {
+fn hex(line: &[u8], heard: Heard) -> Option<Heard> {
     let at = heard.end;
-    if line.len() < 2 {
-        return Heard::not();
+    if line.len() < 2 || line.len() - 2 < at {
+        return None;
     }
-    if line.len() - 2 < at {
-        return Heard::not();
-    }
-    pair(line[at], line[at + 1], heard, at + 2)
+    let high = digit_of(line[at])?;
+    let low = digit_of(line[at + 1])?;
+    Some(heard.plus(high as u64 * 16 + low as u64, at + 2))
 }
 
 // A byte of the sentence itself.
-fn letter(b: u8, line: &[u8], heard: Heard) -> Heard {
+fn letter(b: u8, line: &[u8], heard: Heard) -> Option<Heard> {
     let at = heard.end;
-    if at < line.len() {
-        if line[at] == b {
-            return heard.up_to(at + 1);
-        }
+    if at < line.len() && line[at] == b {
+        Some(heard.up_to(at + 1))
+    } else {
+        None
     }
-    Heard::not()
 }
 
 // A blank, or several.
-fn blanks(line: &[u8], heard: Heard) -> Heard {
+fn blanks(line: &[u8], heard: Heard) -> Option<Heard> {
     let end = past_blanks(line, heard.end);
     if end == heard.end {
-        return Heard::not();
+        None
+    } else {
+        Some(heard.up_to(end))
     }
-    heard.up_to(end)
 }
 
 // What a byte of the sentence stands for.
-fn next(b: u8, line: &[u8], heard: Heard) -> Heard {
-    if !heard.is {
-        return heard;
+fn next(b: u8, line: &[u8], heard: Heard) -> Option<Heard> {
+    match b {
+        b'#' => number(line, heard),
+        b'$' => hex(line, heard),
+        b' ' => blanks(line, heard),
+        _ => letter(b, line, heard),
     }
-    if b == b'#' {
-        return number(line, heard);
-    }
-    if b == b'$' {
-        return hex(line, heard);
-    }
-    if b == b' ' {
-        return blanks(line, heard);
-    }
-    letter(b, line, heard)
 }
 
 // A sentence of the table, beside the line.
-fn beside(row: &[u8], line: &[u8], from: usize) -> Heard {
+fn beside(row: &[u8], line: &[u8], from: usize) -> Option<Heard> {
     let mut heard = Heard::from(from);
-    let mut i: usize = 0;
-    while i < row.len() {
-        let following = next(row[i], line, heard);
-        heard = following;
-        i += 1;
+    for &b in row {
+        heard = next(b, line, heard)?;
     }
-    heard
+    Some(heard)
 }
 
 // Does the sentence stand in the line, from a place on? What stands behind it is not looked at.
-pub fn hear(line: &[u8], from: usize, sentence: usize) -> Heard {
+pub fn hear(line: &[u8], from: usize, sentence: usize) -> Option<Heard> {
     beside(row(&TABLE, sentence), line, from)
 }

@@ -5,7 +5,6 @@ ghost use Rattle.std.specs.Prelude.{◌+◌, ◌*◌, ◌≤◌, ◌<◌, length
 use crate::Said;
 use crate::sentences::TABLE;
 use numbers::write_decimal;
-use refusals::Put;
 
 // One byte.
 pub fn byte(room: &mut [u8], at: usize, b: u8) -> usize
@@ -13,9 +12,10 @@ pub fn byte(room: &mut [u8], at: usize, b: u8) -> usize
 {
     if at < room.len() {
         room[at] = b;
-        return at + 1;
+        at + 1
+    } else {
+        at
     }
-    at
 }
 
 // The ASCII of a hex digit, in capitals as 01 has them.
@@ -38,11 +38,9 @@ pub fn bytes(room: &mut [u8], at: usize, s: &[u8]) -> usize
     ensures { result ≤ at + 3 * length s.now }
 {
     let mut end = at;
-    let mut i: usize = 0;
-    while i < s.len() {
+    for &b in s {
         let place = byte(room, end, b' ');
-        end = pair(room, place, s[i]);
-        i += 1;
+        end = pair(room, place, b);
     }
     end
 }
@@ -51,16 +49,11 @@ pub fn bytes(room: &mut [u8], at: usize, s: &[u8]) -> usize
 fn comma(room: &mut [u8], at: usize, grouped: bool, before: usize, left: usize) -> usize
     ensures { result ≤ at + 1 }
 {
-    if !grouped {
-        return at;
+    if grouped && before != 0 && left % 3 == 0 {
+        byte(room, at, b',')
+    } else {
+        at
     }
-    if before == 0 {
-        return at;
-    }
-    if left % 3 == 0 {
-        return byte(room, at, b',');
-    }
-    at
 }
 
 // Digits, with commas where they are to be grouped.
@@ -68,11 +61,9 @@ fn digits(room: &mut [u8], at: usize, s: &[u8], grouped: bool) -> usize
     ensures { result ≤ at + 2 * length s.now }
 {
     let mut end = at;
-    let mut i: usize = 0;
-    while i < s.len() {
+    for (i, &b) in s.iter().enumerate() {
         let place = comma(room, end, grouped, i, s.len() - i);
-        end = byte(room, place, s[i]);
-        i += 1;
+        end = byte(room, place, b);
     }
     end
 }
@@ -83,25 +74,14 @@ fn decimal(room: &mut [u8], at: usize, n: u64, grouped: bool) -> usize
 {
     let mut text = [0u8; 20];
     match write_decimal(n, &mut text) {
-        Put::Bytes(k) => {
-            if k <= text.len() {
-                return digits(room, at, &text[0..k], grouped);
-            }
-            at
-        }
-        Put::Refused(_) => at,
+        Ok(k) if k <= text.len() => digits(room, at, &text[..k], grouped),
+        _ => at,
     }
 }
 
 // Does a byte of a sentence stand for a value?
 fn is_mark(b: u8) -> bool {
-    if b == b'#' {
-        return true;
-    }
-    if b == b'~' {
-        return true;
-    }
-    b == b'$'
+    matches!(b, b'#' | b'~' | b'$')
 }
 
 // The value that a mark stands for.
@@ -109,9 +89,10 @@ fn value(room: &mut [u8], at: usize, mark: u8, n: u64) -> usize
     ensures { result ≤ at + 40 }
 {
     if mark == b'$' {
-        return pair(room, at, (n % 256) as u8);
+        pair(room, at, (n % 256) as u8)
+    } else {
+        decimal(room, at, n, mark == b'~')
     }
-    decimal(room, at, n, mark == b'~')
 }
 
 // A line of the table, with its values.
@@ -119,68 +100,26 @@ fn filled(room: &mut [u8], at: usize, row: &[u8], values: &[u64; 4]) -> usize
     ensures { result ≤ at + length row.now + 160 }
 {
     let mut end = at;
-    let mut k: usize = 0;
-    let mut i: usize = 0;
-    while i < row.len() {
-        let b = row[i];
-        i += 1;
-        if k < 4 {
-            if is_mark(b) {
-                end = value(room, end, b, values[k]);
-                k += 1;
-                continue;
-            }
+    let mut k = 0;
+    for &b in row {
+        if k < values.len() && is_mark(b) {
+            end = value(room, end, b, values[k]);
+            k += 1;
+        } else {
+            end = byte(room, end, b);
         }
-        end = byte(room, end, b);
     }
     end
 }
 
-// Where a line of the table begins that has so many before it.
-fn start_of(table: &[u8], before: usize) -> usize
-    ensures { result ≤ length table.now }
-{
-    let mut left = before;
-    let mut i: usize = 0;
-    while i < table.len() {
-        if left == 0 {
-            return i;
-        }
-        if table[i] == b'\n' {
-            left -= 1;
-        }
-        i += 1;
-    }
-    i
-}
-
-// Where a line ends that begins at a place. None has more than 100 bytes.
-fn end_of(table: &[u8], start: usize) -> usize
-    requires { start ≤ length table.now }
-    ensures lower_bound { start ≤ result }
-    ensures upper_bound { result ≤ start + 100 }
-    ensures upper_bound_2 { result ≤ length table.now }
-{
-    let mut i = start;
-    while i < table.len() {
-        if table[i] == b'\n' {
-            return i;
-        }
-        if 99 < i - start {
-            return i;
-        }
-        i += 1;
-    }
-    i
-}
-
-// The line of the table that has so many before it.
-pub(crate) fn row<'a>(table: &'a [u8], before: usize) -> &'a [u8]
+// The line of the table that has so many before it. None has more than 100 bytes.
+pub(crate) fn row(table: &[u8], before: usize) -> &[u8]
     ensures { length result.now ≤ 100 }
 {
-    let start = start_of(table, before);
-    let end = end_of(table, start);
-    &table[start..end]
+    match table.split(|b| *b == b'\n').nth(before) {
+        Some(line) => &line[..line.len().min(100)],
+        None => &[],
+    }
 }
 
 // A sentence with its values: 100 bytes, and 40 for each value, at most.

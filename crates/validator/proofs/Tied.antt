@@ -5,7 +5,7 @@ use mathlib.Core.Path.{ap}
 use mathlib.Core.List.{List}
 use Rattle.refusals.proofs.Tied.{Tied, tied}
 use Rattle.validator_rules.specs.declared.session.Step.{Step}
-use Rattle.validator_rules.specs.declared.session.Outcome.{Outcome}
+use Rattle.validator_rules.specs.Outcome.{Outcome}
 use Rattle.validator_rules.proofs.session.Session.fresh.Kinds as fresh
 use Rattle.validator_rules.proofs.session.Session.fresh.Reads as fresh-reads
 use Rattle.validator.proofs.bills.booked.Kinds as booked

@@ -6,25 +6,26 @@ use validator_rules::{Bills, Session};
 
 // So many bills more. A sum past the end of u32 would stay where it is: no session from a fresh one comes near, since each bill is
 // the answer to a command and it accepts no more than 1,000,000 (`few` of `KeptByHistory` in validator_rules/specs/History.antt).
+#[tactic(auto, using(refusals::proofs::Rules::tests), unfolding(validator_rules::specs::Bills::plus))]
 fn plus(bills: Bills, n: u32) -> Bills
     ensures { result ≡ plus bills n }
 {
-    let a = bills.0;
-    if n <= 4_294_967_295 - a {
-        return Bills(a + n);
+    match bills.0.checked_add(n) {
+        Some(sum) => Bills(sum),
+        None => bills,
     }
-    bills
 }
 
-// The bills after a step that credits one of that type, or none where there is no such type.
-pub fn booked(counts: [Bills; 24], bill: usize) -> [Bills; 24]
+// The bills after a step that credits one of that type, or none.
+#[tactic(auto, using(refusals::proofs::Rules::tests), unfolding(validator_rules::specs::Bills::booked_by))]
+pub fn booked(counts: [Bills; 24], bill: Option<usize>) -> [Bills; 24]
     ensures { result ≡ booked_by counts bill }
 {
     let mut next = counts;
-    if bill < Session::TYPES {
-        let was = counts[bill];
-        let more = plus(was, 1);
-        next[bill] = more;
+    if let Some(bill) = bill
+        && bill < Session::TYPES
+    {
+        next[bill] = plus(counts[bill], 1);
     }
     next
 }

@@ -3,14 +3,14 @@ ghost use Rattle.std.specs.Prelude.{◌≡◌, ◌∷◌, ◌≤◌, length, set
 ghost use Rattle.ccnet_frame.specs.Frame.{frame};
 ghost use Rattle.bill_table.specs.Table.{read_table};
 ghost use Rattle.validator_rules.specs.Bills.{stacked_type, is_poll_answer, credited, remembered};
-ghost use Rattle.validator_rules.specs.Session.{is_command, ack, nak, sent, sending, zeros, found, stepped, refused_step, step_after, lent_after, heard_after, after, table_class, class_to, says_table, inner, table_said, damaged_step, answered_step, class_step, judge_step, acted, byte_step, tick_step, request_step, session_request, session_byte, session_tick};
+ghost use Rattle.validator_rules.specs.Session.{is_command, ack, nak, sent, sending, zeros, found, stepped, refused_step, step_after, lent_after, heard_after, after, table_class, class_to, inner, table_said, damaged_step, answered_step, class_step, judge_step, acted, byte_step, tick_step, request_step, session_request, session_byte, session_tick};
 
 use crate::bills::booked;
 use ccnet_class::{Class, classify};
 use ccnet_frame::{body, write_ack, write_command, write_nak};
-use refusals::{Declined, Put};
+use refusals::{Declined, Done};
 use validator_line::{heard, is_open, opened, passed, remembers};
-use validator_rules::{Closing, Found, Heard, Line, Outcome, Reply, Session, Step, Todo};
+use validator_rules::{Closing, Heard, Line, Outcome, Session, Step, Todo};
 
 // The commands (003), and how many data bytes belong to ENABLE BILL TYPES.
 const RESET: u8 = 0x30;
@@ -34,31 +34,15 @@ const TABLE: u8 = 0x41;
 const VALIDATOR: u8 = 0x03;
 
 // Can a command with that code and so many data bytes be sent?
+#[tactic(auto, using(refusals::proofs::Rules::tests), unfolding(validator_rules::specs::Session::is_command))]
 fn is_command(code: u8, size: usize) -> bool
     ensures { result ≡ (is_command code size).test }
 {
-    if code == ENABLE {
-        return size == ENABLE_DATA;
+    match code {
+        ENABLE => size == ENABLE_DATA,
+        RESET | POLL | STACK | RETURN | HOLD | TABLE => size == 0,
+        _ => false,
     }
-    if code == RESET {
-        return size == 0;
-    }
-    if code == POLL {
-        return size == 0;
-    }
-    if code == STACK {
-        return size == 0;
-    }
-    if code == RETURN {
-        return size == 0;
-    }
-    if code == HOLD {
-        return size == 0;
-    }
-    if code == TABLE {
-        return size == 0;
-    }
-    false
 }
 
 // A step that is done, and credits nothing: so many bytes put, and a closing.
@@ -67,8 +51,8 @@ fn done(line: Line, put: usize, closing: Closing) -> Step
 {
     Step {
         line,
-        bill: Session::TYPES,
-        reply: Reply::Done { put, closing },
+        bill: None,
+        reply: Ok(Done { put, closing }),
     }
 }
 
@@ -78,8 +62,8 @@ fn not_done(line: Line, why: Declined) -> Step
 {
     Step {
         line,
-        bill: Session::TYPES,
-        reply: Reply::NotDone(why),
+        bill: None,
+        reply: Err(why),
     }
 }
 
@@ -104,10 +88,7 @@ fn send_ack(room: &mut [u8]) -> usize
     requires { 255 ≤ length room.old }
     ensures { sent result room.new ≡ sending ack room.old }
 {
-    match write_ack(room) {
-        Put::Bytes(n) => n,
-        Put::Refused(_) => 0,
-    }
+    write_ack(room).unwrap_or(0)
 }
 
 // Sends NAK.
@@ -115,10 +96,7 @@ fn send_nak(room: &mut [u8]) -> usize
     requires { 255 ≤ length room.old }
     ensures { sent result room.new ≡ sending nak room.old }
 {
-    match write_nak(room) {
-        Put::Bytes(n) => n,
-        Put::Refused(_) => 0,
-    }
+    write_nak(room).unwrap_or(0)
 }
 
 // Sends the command's frame.
@@ -127,10 +105,7 @@ fn send_command(code: u8, given: &[u8], room: &mut [u8]) -> usize
     requires given_len_bound { length given.now ≤ 6 }
     ensures { sent result room.new ≡ sending (frame 0x03 (code ∷ given.now)) room.old }
 {
-    match write_command(VALIDATOR, code, given, room) {
-        Put::Bytes(n) => n,
-        Put::Refused(_) => 0,
-    }
+    write_command(VALIDATOR, code, given, room).unwrap_or(0)
 }
 
 // Closes without a reply.
@@ -142,6 +117,7 @@ fn close(line: Line, store: &mut [u8; 255], closing: Closing) -> Step
 }
 
 // A damaged answer: NAK, and the command is closed.
+#[tactic(auto, unfolding(validator_rules::specs::Session::damaged_step))]
 fn damaged(line: Line, store: &mut [u8; 255], room: &mut [u8]) -> Step
     requires { 255 ≤ length room.old }
     ensures { lent_after result store.new room.new ≡ damaged_step line room.old }
@@ -152,22 +128,12 @@ fn damaged(line: Line, store: &mut [u8; 255], room: &mut [u8]) -> Step
 }
 
 // The type that an answer says was stacked; none, where it says something else.
-fn stacked(class: Class) -> usize
+fn stacked(class: Class) -> Option<usize>
     ensures { result ≡ stacked_type class }
 {
     match class {
-        Class::Ack => Session::TYPES,
-        Class::Nak => Session::TYPES,
-        Class::Illegal => Session::TYPES,
-        Class::State(_) => Session::TYPES,
-        Class::Busy(_) => Session::TYPES,
-        Class::Rejecting(_) => Session::TYPES,
-        Class::Failing(_) => Session::TYPES,
-        Class::Escrow(_) => Session::TYPES,
-        Class::Stacked(y) => y as usize,
-        Class::Returned(_) => Session::TYPES,
-        Class::Unknown => Session::TYPES,
-        Class::Table => Session::TYPES,
+        Class::Stacked(bill) => Some(bill as usize),
+        _ => None,
     }
 }
 
@@ -175,50 +141,45 @@ fn stacked(class: Class) -> usize
 fn is_poll_answer(class: Class) -> bool
     ensures { result ≡ is_poll_answer class }
 {
-    match class {
-        Class::Ack => false,
-        Class::Nak => false,
-        Class::Illegal => false,
-        Class::State(_) => true,
-        Class::Busy(_) => true,
-        Class::Rejecting(_) => true,
-        Class::Failing(_) => true,
-        Class::Escrow(_) => true,
-        Class::Stacked(_) => true,
-        Class::Returned(_) => true,
-        Class::Unknown => false,
-        Class::Table => false,
-    }
+    matches!(
+        class,
+        Class::State(_)
+            | Class::Busy(_)
+            | Class::Rejecting(_)
+            | Class::Failing(_)
+            | Class::Escrow(_)
+            | Class::Stacked(_)
+            | Class::Returned(_)
+    )
 }
 
 // The type of the bill that an answer to that command credits; none, where it credits none.
-fn credit(code: u64, last: usize, class: Class) -> usize
+#[tactic(auto, using(refusals::proofs::Rules::tests), unfolding(validator_rules::specs::Bills::credited))]
+fn credit(code: u64, last: Option<usize>, class: Class) -> Option<usize>
     ensures { result ≡ credited code last class }
 {
-    if code != POLL as u64 {
-        return Session::TYPES;
+    let bill = stacked(class);
+    if code == POLL as u64 && bill != last {
+        bill
+    } else {
+        None
     }
-    let y = stacked(class);
-    if y == last {
-        return Session::TYPES;
-    }
-    y
 }
 
 // What is remembered once that command has that answer.
-fn memory(code: u64, last: usize, class: Class) -> usize
+#[tactic(auto, using(refusals::proofs::Rules::tests), unfolding(validator_rules::specs::Bills::remembered))]
+fn memory(code: u64, last: Option<usize>, class: Class) -> Option<usize>
     ensures { result ≡ remembered code last class }
 {
-    if code != POLL as u64 {
-        return last;
+    if code == POLL as u64 && is_poll_answer(class) {
+        stacked(class)
+    } else {
+        last
     }
-    if is_poll_answer(class) {
-        return stacked(class);
-    }
-    last
 }
 
 // An answer: ACK, and the command is closed. What it says is told while its body still stands in the store.
+#[tactic(auto, unfolding(validator_rules::specs::Session::answered_step))]
 fn answered(line: Line, class: Class, store: &mut [u8; 255], room: &mut [u8]) -> Step
     requires { 255 ≤ length room.old }
     ensures { lent_after result store.new room.new ≡ answered_step line class room.old }
@@ -226,15 +187,13 @@ fn answered(line: Line, class: Class, store: &mut [u8; 255], room: &mut [u8]) ->
     let bill = credit(line.code, line.last, class);
     let last = memory(line.code, line.last, class);
     clear(store);
-    let n = send_ack(room);
-    let next = remembers(line, last);
     Step {
-        line: next,
+        line: remembers(line, last),
         bill,
-        reply: Reply::Done {
-            put: n,
+        reply: Ok(Done {
+            put: send_ack(room),
             closing: Closing::Answered(class),
-        },
+        }),
     }
 }
 
@@ -256,19 +215,14 @@ fn table_class(class: Class, body: &[u8]) -> Class
     ensures { result ≡ table_class class body.now }
 {
     match class {
-        Class::Ack => Class::Ack,
-        Class::Nak => Class::Nak,
-        Class::Illegal => Class::Illegal,
-        _ => {
-            if body.len() <= bill_table::SIZE {
-                return Class::Table;
-            }
-            Class::Unknown
-        }
+        Class::Ack | Class::Nak | Class::Illegal => class,
+        _ if body.len() <= bill_table::SIZE => Class::Table,
+        _ => Class::Unknown,
     }
 }
 
 // What a body says in answer to a command with that code.
+#[tactic(auto, using(refusals::proofs::Rules::tests), unfolding(validator_rules::specs::Session::class_to))]
 fn class_to(code: u64, body: &[u8]) -> Class
     ensures { result ≡ class_to code body.now }
 {
@@ -280,74 +234,46 @@ fn class_to(code: u64, body: &[u8]) -> Class
 }
 
 // What a frame is found to be. A good body is never empty, and that of a refused frame always is.
-fn read(code: u64, frame: &[u8]) -> Found
+fn read(code: u64, frame: &[u8]) -> Option<Class>
     ensures { result ≡ found code frame.now }
 {
     let part = body(frame);
-    if part.len() == 0 {
-        return Found::Bad;
+    if part.is_empty() {
+        return None;
     }
-    Found::Good(class_to(code, part))
+    Some(class_to(code, part))
 }
 
 // What the gathered frame is found to be; no more than the store holds.
-fn gathered(code: u64, store: &[u8], size: usize) -> Found
+fn gathered(code: u64, store: &[u8], size: usize) -> Option<Class>
     ensures { result ≡ found code (take size store.now) }
 {
-    if size <= store.len() {
-        return read(code, &store[..size]);
-    }
-    read(code, store)
-}
-
-// Is it the bill table?
-fn says_table(class: Class) -> bool
-    ensures { result ≡ says_table class }
-{
-    match class {
-        Class::Ack => false,
-        Class::Nak => false,
-        Class::Illegal => false,
-        Class::State(_) => false,
-        Class::Busy(_) => false,
-        Class::Rejecting(_) => false,
-        Class::Failing(_) => false,
-        Class::Escrow(_) => false,
-        Class::Stacked(_) => false,
-        Class::Returned(_) => false,
-        Class::Unknown => false,
-        Class::Table => true,
-    }
+    read(code, &store[..size.min(store.len())])
 }
 
 // Keeps a frame's body as the bill table.
 fn keep_body(frame: &[u8], table: &mut [u8; 120])
     ensures { table.new ≡ (read_table (inner frame.now) table.old).table }
 {
-    let n = frame.len();
-    if n < 5 {
-        bill_table::read(&frame[0..0], table);
+    if frame.len() < 5 {
+        bill_table::read(&[], table);
         return;
     }
-    let end = n - 2;
-    bill_table::read(&frame[3..end], table);
+    bill_table::read(&frame[3..frame.len() - 2], table);
 }
 
 // Keeps the bill table, where the frame says one, while its bytes still stand in the store.
+#[tactic(auto, using(refusals::proofs::Rules::tests), unfolding(validator_rules::specs::Session::table_said))]
 fn keep_table(class: Class, store: &[u8], size: usize, table: &mut [u8; 120])
     ensures { table.new ≡ table_said class (take size store.now) table.old }
 {
-    if !says_table(class) {
-        return;
+    if matches!(class, Class::Table) {
+        keep_body(&store[..size.min(store.len())], table);
     }
-    if size <= store.len() {
-        keep_body(&store[..size], table);
-        return;
-    }
-    keep_body(store, table);
 }
 
 // Judges the frame, which is full.
+#[tactic(auto, unfolding(validator_rules::specs::Session::judge_step))]
 fn judge(
     line: Line,
     size: usize,
@@ -359,8 +285,8 @@ fn judge(
     ensures { heard_after (lent_after result store.new room.new) table.new ≡ judge_step line size store.old table.old room.old }
 {
     match gathered(line.code, store, size) {
-        Found::Bad => damaged(line, store, room),
-        Found::Good(class) => {
+        None => damaged(line, store, room),
+        Some(class) => {
             keep_table(class, store, size, table);
             said(line, class, store, room)
         }
@@ -380,6 +306,7 @@ fn act(line: Line, todo: Todo, store: &mut [u8; 255], room: &mut [u8]) -> Step
 }
 
 // A byte arrives. Where it ends an answer with a bill table, which the closing says, the table that is lent holds it afterwards.
+#[tactic(auto, using(refusals::proofs::Rules::tests), unfolding(validator_rules::specs::Session::byte_step, validator_rules::specs::Session::byte_refusals))]
 pub fn step_byte(
     line: Line,
     store: &mut [u8; 255],
@@ -392,45 +319,39 @@ pub fn step_byte(
     if room.len() < Session::ROOM {
         return not_done(line, Declined::Room);
     }
-    let at = line.gathered;
-    let length = line.length;
     let hearing = heard(line, b);
     let next = hearing.line;
-    let heard = hearing.heard;
-    match heard {
+    match hearing.heard {
         Heard::Skip => done(next, 0, Closing::Nothing),
         Heard::Keep => {
-            keep(store, at, b);
+            keep(store, line.gathered, b);
             done(next, 0, Closing::Nothing)
         }
         Heard::Judge => {
-            keep(store, at, b);
-            judge(next, length, store, table, room)
+            keep(store, line.gathered, b);
+            judge(next, line.length, store, table, room)
         }
         Heard::Wrong => damaged(next, store, room),
     }
 }
 
 // So many milliseconds pass.
+#[tactic(auto, using(refusals::proofs::Rules::tests), unfolding(validator_rules::specs::Session::tick_step, validator_rules::specs::Session::tick_refusals))]
 pub fn step_tick(line: Line, store: &mut [u8; 255], ms: u32, room: &mut [u8]) -> Step
     ensures { lent_after result store.new room.new ≡ tick_step line store.old ms room.old }
 {
     if room.len() < Session::ROOM {
         return not_done(line, Declined::Room);
     }
-    if ms < 1 {
-        return not_done(line, Declined::Tick);
-    }
-    if Session::TICK < ms {
+    if !(1..=Session::TICK).contains(&ms) {
         return not_done(line, Declined::Tick);
     }
     let turn = passed(line, ms as u64);
-    let next = turn.line;
-    let todo = turn.todo;
-    act(next, todo, store, room)
+    act(turn.line, turn.todo, store, room)
 }
 
 // A request: a code, and its data.
+#[tactic(auto, using(refusals::proofs::Rules::tests), unfolding(validator_rules::specs::Session::request_step, validator_rules::specs::Session::request_refusals))]
 pub fn step_request(line: Line, code: u8, given: &[u8], room: &mut [u8]) -> Step
     ensures { step_after result room.new ≡ request_step line code given.now room.old }
 {
@@ -455,71 +376,53 @@ pub fn step_request(line: Line, code: u8, given: &[u8], room: &mut [u8]) -> Step
 }
 
 // A request: a code, and its data (none but for ENABLE BILL TYPES). GET BILL TABLE asks for the table that the session then holds.
+#[tactic(auto, unfolding(validator_rules::specs::Session::session_request))]
 pub fn request(session: Session, code: u8, given: &[u8], room: &mut [u8]) -> Outcome
     ensures { after result room.new ≡ session_request session code given.now room.old }
 {
-    let line = session.line;
-    let bills = session.bills;
-    let store = session.store;
-    let table = session.table;
-    let step = step_request(line, code, given, room);
-    let next = step.line;
-    let reply = step.reply;
+    let step = step_request(session.line, code, given, room);
     Outcome {
         session: Session {
-            line: next,
-            bills,
-            store,
-            table,
+            line: step.line,
+            ..session
         },
-        reply,
+        reply: step.reply,
     }
 }
 
 // A byte from the validator.
+#[tactic(auto, unfolding(validator_rules::specs::Session::session_byte))]
 pub fn byte(session: Session, b: u8, room: &mut [u8]) -> Outcome
     ensures { after result room.new ≡ session_byte session b room.old }
 {
-    let line = session.line;
-    let bills = session.bills;
     let mut store = session.store;
     let mut table = session.table;
-    let step = step_byte(line, &mut store, &mut table, b, room);
-    let next = step.line;
-    let bill = step.bill;
-    let reply = step.reply;
-    let counts = booked(bills, bill);
+    let step = step_byte(session.line, &mut store, &mut table, b, room);
     Outcome {
         session: Session {
-            line: next,
-            bills: counts,
+            line: step.line,
+            bills: booked(session.bills, step.bill),
             store,
             table,
         },
-        reply,
+        reply: step.reply,
     }
 }
 
 // So many milliseconds pass.
+#[tactic(auto, unfolding(validator_rules::specs::Session::session_tick))]
 pub fn tick(session: Session, ms: u32, room: &mut [u8]) -> Outcome
     ensures { after result room.new ≡ session_tick session ms room.old }
 {
-    let line = session.line;
-    let bills = session.bills;
     let mut store = session.store;
-    let table = session.table;
-    let step = step_tick(line, &mut store, ms, room);
-    let next = step.line;
-    let bill = step.bill;
-    let reply = step.reply;
-    let counts = booked(bills, bill);
+    let step = step_tick(session.line, &mut store, ms, room);
     Outcome {
         session: Session {
-            line: next,
-            bills: counts,
+            line: step.line,
+            bills: booked(session.bills, step.bill),
             store,
-            table,
+            ..session
         },
-        reply,
+        reply: step.reply,
     }
 }

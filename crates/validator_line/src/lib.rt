@@ -10,12 +10,7 @@ use validator_rules::{Heard, Hearing, Line, Phase, Session, Todo, Turn};
 pub fn is_open(line: Line) -> bool
     ensures { result ≡ is_open line.phase }
 {
-    let p = line.phase;
-    match p {
-        Phase::Idle => false,
-        Phase::Start => true,
-        Phase::Inside => true,
-    }
+    !matches!(line.phase, Phase::Idle)
 }
 
 // A request is accepted, and its frame sent.
@@ -26,10 +21,10 @@ pub fn opened(line: Line, code: u64, accepted: u64) -> Line
         left: Session::START,
         accepted,
         code,
-        last: line.last,
         gathered: 0,
         length: 0,
         phase: Phase::Start,
+        ..line
     }
 }
 
@@ -39,29 +34,18 @@ fn closed(line: Line) -> Line
 {
     Line {
         left: Session::QUIET,
-        accepted: line.accepted,
-        code: line.code,
-        last: line.last,
         gathered: 0,
         length: 0,
         phase: Phase::Idle,
+        ..line
     }
 }
 
 // The same, with what the last listed answer to a POLL said.
-pub fn remembers(line: Line, last: usize) -> Line
+pub fn remembers(line: Line, last: Option<usize>) -> Line
     ensures { result ≡ remembers line last }
 {
-    let p = line.phase;
-    Line {
-        left: line.left,
-        accepted: line.accepted,
-        code: line.code,
-        last,
-        gathered: line.gathered,
-        length: line.length,
-        phase: p,
-    }
+    Line { last, ..line }
 }
 
 // Inside an answer, with so many bytes gathered of so many.
@@ -70,12 +54,10 @@ fn inside(line: Line, left: u64, gathered: usize, length: usize) -> Line
 {
     Line {
         left,
-        accepted: line.accepted,
-        code: line.code,
-        last: line.last,
         gathered,
         length,
         phase: Phase::Inside,
+        ..line
     }
 }
 
@@ -83,167 +65,133 @@ fn inside(line: Line, left: u64, gathered: usize, length: usize) -> Line
 fn waits(line: Line, left: u64) -> Line
     ensures { result ≡ waits line left }
 {
-    let p = line.phase;
-    Line {
-        left,
-        accepted: line.accepted,
-        code: line.code,
-        last: line.last,
-        gathered: line.gathered,
-        length: line.length,
-        phase: p,
-    }
+    Line { left, ..line }
 }
 
 // Waiting for an answer: bytes before 02h are skipped and do not restart the wait.
+#[tactic(auto, using(refusals::proofs::Rules::tests), unfolding(validator_rules::specs::Line::start_byte))]
 fn start_byte(line: Line, b: u8) -> Hearing
     ensures { result ≡ start_byte line b }
 {
     if b == 0x02 {
-        let next = inside(line, Session::FRAME, 1, Session::STORE);
         return Hearing {
-            line: next,
+            line: inside(line, Session::FRAME, 1, Session::STORE),
             heard: Heard::Keep,
         };
     }
-    let next = waits(line, line.left);
     Hearing {
-        line: next,
+        line,
         heard: Heard::Skip,
     }
 }
 
 // The address of an answer.
+#[tactic(auto, using(refusals::proofs::Rules::tests), unfolding(validator_rules::specs::Line::address_byte))]
 fn address_byte(line: Line, b: u8) -> Hearing
     ensures { result ≡ address_byte line b }
 {
     if b == 0x03 {
-        let next = inside(line, line.left, 2, line.length);
         return Hearing {
-            line: next,
+            line: inside(line, line.left, 2, line.length),
             heard: Heard::Keep,
         };
     }
-    let next = closed(line);
     Hearing {
-        line: next,
+        line: closed(line),
         heard: Heard::Wrong,
     }
 }
 
 // The length byte of an answer.
+#[tactic(auto, using(refusals::proofs::Rules::tests), unfolding(validator_rules::specs::Line::length_byte))]
 fn length_byte(line: Line, b: u8) -> Hearing
     ensures { result ≡ length_byte line b }
 {
     if b < 6 {
-        let next = closed(line);
         return Hearing {
-            line: next,
+            line: closed(line),
             heard: Heard::Wrong,
         };
     }
-    let next = inside(line, line.left, 3, b as usize);
     Hearing {
-        line: next,
+        line: inside(line, line.left, 3, b as usize),
         heard: Heard::Keep,
     }
 }
 
 // A byte of an answer past its length byte.
+#[tactic(auto, using(refusals::proofs::Rules::tests), unfolding(validator_rules::specs::Line::further_byte))]
 fn further_byte(line: Line) -> Hearing
     ensures { result ≡ further_byte line }
 {
-    if line.gathered < line.length {
-        let n = line.gathered + 1;
-        if n < line.length {
-            let next = inside(line, line.left, n, line.length);
-            return Hearing {
-                line: next,
-                heard: Heard::Keep,
-            };
-        }
-        let next = closed(line);
+    if line.gathered < line.length && line.gathered + 1 < line.length {
         return Hearing {
-            line: next,
-            heard: Heard::Judge,
+            line: inside(line, line.left, line.gathered + 1, line.length),
+            heard: Heard::Keep,
         };
     }
-    let next = closed(line);
     Hearing {
-        line: next,
+        line: closed(line),
         heard: Heard::Judge,
     }
 }
 
 // Inside an answer: its address and its length are judged at their byte.
+#[tactic(auto, using(refusals::proofs::Rules::tests), unfolding(validator_rules::specs::Line::answer_byte))]
 fn answer_byte(line: Line, b: u8) -> Hearing
     ensures { result ≡ answer_byte line b }
 {
-    if line.gathered == 1 {
-        return address_byte(line, b);
+    match line.gathered {
+        1 => address_byte(line, b),
+        2 => length_byte(line, b),
+        _ => further_byte(line),
     }
-    if line.gathered == 2 {
-        return length_byte(line, b);
-    }
-    further_byte(line)
 }
 
 // A byte arrives.
+#[tactic(auto, unfolding(validator_rules::specs::Line::heard))]
 pub fn heard(line: Line, b: u8) -> Hearing
     ensures { result ≡ heard line b }
 {
-    let p = line.phase;
-    match p {
-        Phase::Idle => {
-            let next = waits(line, Session::QUIET);
-            Hearing {
-                line: next,
-                heard: Heard::Skip,
-            }
-        }
+    match line.phase {
+        Phase::Idle => Hearing {
+            line: waits(line, Session::QUIET),
+            heard: Heard::Skip,
+        },
         Phase::Start => start_byte(line, b),
         Phase::Inside => answer_byte(line, b),
     }
 }
 
 // A wait has ended.
+#[tactic(auto, unfolding(validator_rules::specs::Line::expired))]
 fn expired(line: Line) -> Turn
     ensures { result ≡ expired line }
 {
-    let p = line.phase;
-    match p {
-        Phase::Idle => {
-            let next = waits(line, 0);
-            Turn {
-                line: next,
-                todo: Todo::Nothing,
-            }
-        }
-        Phase::Start => {
-            let next = closed(line);
-            Turn {
-                line: next,
-                todo: Todo::CloseSilent,
-            }
-        }
-        Phase::Inside => {
-            let next = closed(line);
-            Turn {
-                line: next,
-                todo: Todo::CloseDamaged,
-            }
-        }
+    match line.phase {
+        Phase::Idle => Turn {
+            line: waits(line, 0),
+            todo: Todo::Nothing,
+        },
+        Phase::Start => Turn {
+            line: closed(line),
+            todo: Todo::CloseSilent,
+        },
+        Phase::Inside => Turn {
+            line: closed(line),
+            todo: Todo::CloseDamaged,
+        },
     }
 }
 
 // So many milliseconds pass. A tick that ends a wait drops its excess.
+#[tactic(auto, using(refusals::proofs::Rules::tests), unfolding(validator_rules::specs::Line::passed))]
 pub fn passed(line: Line, ms: u64) -> Turn
     ensures { result ≡ passed line ms }
 {
     if ms < line.left {
-        let next = waits(line, line.left - ms);
         return Turn {
-            line: next,
+            line: waits(line, line.left - ms),
             todo: Todo::Nothing,
         };
     }

@@ -16,8 +16,8 @@ use Rattle.refusals.proofs.Rules.{holds-true, fails-false, by_cases, cond-true, 
 use Rattle.refusals.proofs.Writing.{take-over}
 use Rattle.ccnet_frame.specs.Frame.{frame, judge_frame, body_of}
 use Rattle.ccnet_class.specs.Class.{class_of, class_bytes}
-use Rattle.ccnet_frame.specs.declared.Judged.{Judged}
-use Rattle.ccnet_frame.specs.declared.Judged.TheVariants.{Good as Passed, Refused as Failed}
+use Rattle.ccnet_frame.specs.Judged.{Judged}
+use Rattle.ccnet_frame.specs.Judged.{Good as Passed, Refused as Failed}
 use Rattle.ccnet_class.specs.declared.Class.{Class}
 use Rattle.ccnet_class.specs.declared.Class.TheVariants.{Ack, Nak, Illegal, State, Busy, Rejecting, Failing, Escrow, Stacked, Returned, Unknown, Table}
 use Rattle.ccnet_frame.proofs.Frames.{frame-length, frame-judged, good-long, good-most, good-size, good-frame}

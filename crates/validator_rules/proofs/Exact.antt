@@ -1,5 +1,6 @@
 -- Each number is given exactly when 01 says, a call that is declined leaves everything as it was, and a call that is done sends what its
 -- closing calls for. Assumes nothing.
+use Rattle.std.proofs.lemmas.Result.{IfOk-at_ok}
 use Prim.Native.Nat.{ℕ}
 use mathlib.Core.Path.{◌≡◌, refl, sym, ap, ◌∙◌}
 use mathlib.Core.Bool.{true}
@@ -23,11 +24,11 @@ use Rattle.validator_rules.specs.declared.line.Todo.TheVariants.{Nothing, CloseD
 use Rattle.validator_rules.specs.declared.line.Heard.{Heard}
 use Rattle.validator_rules.specs.declared.line.Heard.TheVariants.{Skip, Keep, Judge, Wrong}
 use Rattle.refusals.specs.declared.Declined.{Declined}
-use Rattle.validator_rules.specs.declared.session.Reply.{Reply}
-use Rattle.validator_rules.specs.declared.session.Reply.TheVariants.{NotDone, Done}
+use Rattle.validator_rules.specs.Reply.{Reply}
+use Rattle.validator_rules.specs.Reply.{NotDone, Done}
 use Rattle.validator_rules.specs.declared.session.Closing.{Closing}
-use Rattle.validator_rules.specs.declared.session.Found.{Found}
-use Rattle.validator_rules.specs.declared.session.Found.TheVariants.{Bad, Good}
+use Rattle.validator_rules.specs.Found.{Found}
+use Rattle.validator_rules.specs.Found.{Bad, Good}
 use Rattle.validator_rules.specs.declared.session.Session.{Session}
 
 -- a reply that is no refusal, with what it sends
@@ -47,7 +48,7 @@ module _ {A : Type 0} (rules : List (Rule Declined)) (refuse : Declined → A) (
   tells =
       either_way (λ (a : A). (n : ℕ) (c : Closing) → (g a).reply ≡ Done n c → sent n (g a).room ≡ f c) rules refuse done
       (λ why n c e. absurd (told-apart.never why (n, (c, ap returned (sym (says why) ∙ e)))))
-      (λ none n c e. cc)
+      (λ none n c e. IfOk-at_ok (λ x. sent x.put (g done).room ≡ f x.closing) (sym told.is ∙ e) told.sent_is)
 
 -- ---- whatever is done, bytes and a closing are told, and what was sent is what the closing calls for
 

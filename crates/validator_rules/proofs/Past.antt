@@ -17,7 +17,7 @@ use Rattle.ccnet_class.specs.declared.Class.{Class}
 use Rattle.ccnet_class.specs.declared.Class.TheVariants.{Ack, Nak, Illegal, State, Busy, Rejecting, Failing, Escrow, Stacked, Returned, Unknown, Table}
 use Rattle.ccnet_class.proofs.Classes.{classes}
 use Rattle.validator_rules.specs.Limits.{types}
-use Rattle.validator_rules.specs.Bills.{stacked_type, is_poll_answer, poll}
+use Rattle.validator_rules.specs.Bills.{no_bill, a_bill, stacked_type, is_poll_answer, poll}
 use Rattle.validator_rules.specs.Calls.{Known, Past}
 use Rattle.validator_rules.specs.History.{from_start, answer_to, reported, adds, counted}
 
@@ -127,25 +127,28 @@ pub counted_none : (y : ℕ) (e : Known) (h : Past) → ((adds y e h).holds → 
 unfolding counted
 counted_none y e h a = cond-false _ _ (fails-false (adds y e h) a)
 
--- a body says that type y was stacked exactly if it is 81h y
-stacked-bytes : (c : Class) (y : ℕ) → y < types → stacked_type c ≡ y → c ≡ Stacked y
-stacked-bytes Ack y h e = absurd (omega arith)
-stacked-bytes Nak y h e = absurd (omega arith)
-stacked-bytes Illegal y h e = absurd (omega arith)
-stacked-bytes (State b) y h e = absurd (omega arith)
-stacked-bytes (Busy b) y h e = absurd (omega arith)
-stacked-bytes (Rejecting b) y h e = absurd (omega arith)
-stacked-bytes (Failing b) y h e = absurd (omega arith)
-stacked-bytes (Escrow b) y h e = absurd (omega arith)
-stacked-bytes (Stacked b) y h e = ap Stacked e
-stacked-bytes (Returned b) y h e = absurd (omega arith)
-stacked-bytes Unknown y h e = absurd (omega arith)
-stacked-bytes Table y h e = absurd (omega arith)
+pub none-is-no-type : (y : ℕ) → no_bill ≡ a_bill y → ⊥
+none-is-no-type y e = (let z : ◌≡◌ {A = ℕ} 0 1 = cc in omega arith)
 
-pub stacked-is : (s : List ℕ) (y : ℕ) → y < types → (stacked_type (class_of s) ≡ y) ↔ (s ≡ 0x81 ∷ y ∷ [])
+-- a body says that type y was stacked exactly if it is 81h y
+stacked-bytes : (c : Class) (y : ℕ) → stacked_type c ≡ a_bill y → c ≡ Stacked y
+stacked-bytes (Stacked b) y e = (let p : b ≡ y = cc in ap Stacked p)
+stacked-bytes Ack y e = absurd (none-is-no-type y e)
+stacked-bytes Nak y e = absurd (none-is-no-type y e)
+stacked-bytes Illegal y e = absurd (none-is-no-type y e)
+stacked-bytes (State b) y e = absurd (none-is-no-type y e)
+stacked-bytes (Busy b) y e = absurd (none-is-no-type y e)
+stacked-bytes (Rejecting b) y e = absurd (none-is-no-type y e)
+stacked-bytes (Failing b) y e = absurd (none-is-no-type y e)
+stacked-bytes (Escrow b) y e = absurd (none-is-no-type y e)
+stacked-bytes (Returned b) y e = absurd (none-is-no-type y e)
+stacked-bytes Unknown y e = absurd (none-is-no-type y e)
+stacked-bytes Table y e = absurd (none-is-no-type y e)
+
+pub stacked-is : (s : List ℕ) (y : ℕ) → y < types → (stacked_type (class_of s) ≡ a_bill y) ↔ (s ≡ 0x81 ∷ y ∷ [])
 stacked-is s y h = (
   λ e.
-      let c = stacked-bytes (class_of s) y h e in
+      let c = stacked-bytes (class_of s) y e in
       let known : class_of s ≡ Unknown → ⊥ = λ u. (let f : Stacked y ≡ Unknown = sym c ∙ u in let z : ◌≡◌ {A = ℕ} 0 1 = cc in omega arith) in
       sym (classes.again s known).1 ∙ ap class_bytes c,
   λ e. ap (λ (t : List ℕ). stacked_type (class_of t)) e ∙ ap stacked_type (classes.back (Stacked y) (omega arith, omega arith)),

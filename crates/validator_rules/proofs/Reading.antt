@@ -5,12 +5,12 @@ use mathlib.Core.List.{List}
 use native.Mathlib.Omega.{arith}
 use lib.ListN.{length}
 use Rattle.ccnet_frame.specs.Frame.{judge_frame, body_of}
-use Rattle.ccnet_frame.specs.declared.Judged.{Judged}
-use Rattle.ccnet_frame.specs.declared.Judged.TheVariants.{Good, Refused}
+use Rattle.ccnet_frame.specs.Judged.{Judged}
+use Rattle.ccnet_frame.specs.Judged.{Good, Refused}
 use Rattle.ccnet_class.specs.declared.Class.{Class}
 use Rattle.ccnet_frame.proofs.Frames.{good-long, good-size}
 use Rattle.validator_rules.specs.Session.{class_to, found_in, found}
-use Rattle.validator_rules.specs.declared.session.Found.TheVariants.{Bad, Good as Says}
+use Rattle.validator_rules.specs.Found.{Bad, Good as Says}
 
 module _ (s part : List ℕ) (e : part ≡ body_of s) where
   pub read-bad : (code : ℕ) → length part ≡ 0 → Bad ≡ found code s

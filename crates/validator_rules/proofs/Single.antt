@@ -9,7 +9,7 @@ use lib.Dec.{lit≤}
 use lib.ListN.{length, get_or}
 use Rattle.ccnet_frame.specs.Frame.{frame, judge_frame, body_of}
 use Rattle.ccnet_class.specs.Class.{class_bytes, is_named}
-use Rattle.ccnet_frame.specs.declared.Judged.TheVariants.{Good}
+use Rattle.ccnet_frame.specs.Judged.{Good}
 use Rattle.ccnet_class.specs.declared.Class.{Class}
 use Rattle.ccnet_class.specs.declared.Class.TheVariants.{Ack, Nak, Illegal, State, Busy, Rejecting, Failing, Escrow, Stacked, Returned, Unknown, Table}
 use Rattle.ccnet_frame.proofs.Frames.{frame-length, frame-judged, frame-body}

@@ -18,8 +18,8 @@ use Rattle.validator_rules.specs.Session.{HeardAfter, damaged_step, answered_ste
 use Rattle.validator_rules.specs.History.{last_code, from_start, between, answer_to, table_by, Says, Truly}
 use Rattle.validator_rules.specs.Calls.{Request, answered, Known, Past, returned, ending}
 use Rattle.validator_rules.specs.declared.session.Closing.{Closing}
-use Rattle.validator_rules.specs.declared.session.Found.{Found}
-use Rattle.validator_rules.specs.declared.session.Found.TheVariants.{Bad, Good}
+use Rattle.validator_rules.specs.Found.{Found}
+use Rattle.validator_rules.specs.Found.{Bad, Good}
 use Rattle.validator_rules.specs.declared.line.Phase.{Phase}
 use Rattle.validator_rules.specs.declared.line.Phase.TheVariants.{Idle, Start, Inside}
 use Rattle.validator_rules.specs.declared.line.Line.{Line}

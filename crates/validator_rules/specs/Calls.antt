@@ -1,14 +1,14 @@
 -- Any calls at all on the validator session (01, "What the proofs must leave no choice about"), as their caller sees them. The session after calls, and their
 -- history, are those of every line (`ledger`).
-use Rattle.std.specs.Prelude.{ℕ, ◌<◌, List, []}
+use Rattle.std.specs.Prelude.{ℕ, ◌<◌, List, [], Ok}
 use Rattle.ccnet_class.specs.declared.Class.{Class}
 use Rattle.ledger.specs.Events.{Deed, asks, hears, waits, Left, goes_on, closes, Event, History}
 use Rattle.ledger.specs.Calls.{Returned, gave, did, Host, history_from}
 use Rattle.validator_rules.specs.Session.{After, fresh_session, session_request, session_byte, session_tick}
 use Rattle.validator_rules.specs.declared.session.Closing.{Closing}
 use Rattle.validator_rules.specs.declared.session.Closing.TheVariants.{Nothing, Acknowledged, NotAcknowledged, IllegalCommand, Answered, Damaged, Silent}
-use Rattle.validator_rules.specs.declared.session.Reply.{Reply}
-use Rattle.validator_rules.specs.declared.session.Reply.TheVariants.{NotDone, Done}
+use Rattle.validator_rules.specs.Reply.{Reply}
+use Rattle.validator_rules.specs.Reply.{NotDone}
 use Rattle.validator_rules.specs.declared.session.Session.{Session}
 
 -- a call, with any arguments and any room: a code and its data; a byte; milliseconds
@@ -55,7 +55,7 @@ deed (tick ms r) = waits ms
 -- what a call returned
 abbrev pub returned : Reply → Returned Closing
 returned (NotDone why) = gave why
-returned (Done n closing) = did n closing
+returned (Ok effect) = did effect.put effect.closing
 
 -- the closing that was returned; of an answer with the class that it carries
 abbrev pub ending : Closing → Left Ending

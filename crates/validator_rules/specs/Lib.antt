@@ -6,3 +6,6 @@ pub mod Session
 pub mod Calls
 pub mod Promises
 pub mod History
+pub mod Reply
+pub mod Found
+pub mod Outcome

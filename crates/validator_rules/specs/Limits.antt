@@ -25,7 +25,7 @@ least_room = 255
 abbrev pub command_limit : ℕ
 command_limit = 1_000_000
 
--- "a bill type 0 to 23": 24 stands for no type
+-- "a bill type 0 to 23"
 abbrev pub types : ℕ
 types = 24
 

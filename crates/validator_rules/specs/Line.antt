@@ -1,6 +1,7 @@
 -- The line's discipline, sentence by sentence (01, "The validator session"). It says what is to be done, and counts no bills.
-use Rattle.std.specs.Prelude.{ℕ, ◌+◌, ◌-◌, Bool, true, false, cond, ltb, eqb}
-use Rattle.validator_rules.specs.Limits.{quiet, start_wait, frame_wait, store_size, types}
+use Rattle.std.specs.Prelude.{ℕ, Option, ◌+◌, ◌-◌, Bool, true, false, cond, ltb, eqb}
+use Rattle.validator_rules.specs.Limits.{quiet, start_wait, frame_wait, store_size}
+use Rattle.validator_rules.specs.Bills.{no_bill}
 use Rattle.validator_rules.specs.declared.line.Phase.{Phase}
 use Rattle.validator_rules.specs.declared.line.Phase.TheVariants.{Idle, Start, Inside}
 use Rattle.validator_rules.specs.declared.line.Line.{Line}
@@ -21,7 +22,7 @@ hearing l h = record { line = l; heard = h }
 
 -- "counted from the fresh state": no quiet yet, nothing open, nothing remembered
 abbrev pub fresh_line : Line
-fresh_line = record { left = quiet; accepted = 0; code = 0; last = types; gathered = 0; length = 0; phase = Idle }
+fresh_line = record { left = quiet; accepted = 0; code = 0; last = no_bill; gathered = 0; length = 0; phase = Idle }
 
 -- a command is open
 abbrev pub is_open : Phase → Bool
@@ -39,7 +40,7 @@ abbrev pub closed : Line → Line
 closed l = record { left = quiet; accepted = l.accepted; code = l.code; last = l.last; gathered = 0; length = 0; phase = Idle }
 
 -- the same, with what the last listed answer to a POLL said was stacked
-abbrev pub remembers : Line → ℕ → Line
+abbrev pub remembers : Line → Option ℕ → Line
 remembers l last =
     record { left = l.left; accepted = l.accepted; code = l.code; last = last; gathered = l.gathered; length = l.length; phase = l.phase }
 

@@ -4,7 +4,7 @@ use Rattle.ccnet_frame.specs.Frame.{frame}
 use Rattle.ledger.specs.Calls.{Declines}
 use Rattle.validator_rules.specs.Session.{Sent, sent, sending, ack, nak, byte_refusals, tick_refusals, request_refusals, session_request, session_byte, session_tick}
 use Rattle.validator_rules.specs.Calls.{host}
-use Rattle.validator_rules.specs.declared.session.Reply.TheVariants.{Done}
+use Rattle.validator_rules.specs.Reply.{Done}
 use Rattle.validator_rules.specs.declared.session.Closing.{Closing}
 use Rattle.validator_rules.specs.declared.session.Closing.TheVariants.{Nothing, Acknowledged, NotAcknowledged, IllegalCommand, Answered, Damaged, Silent}
 use Rattle.validator_rules.specs.declared.session.Session.{Session}

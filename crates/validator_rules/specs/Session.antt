@@ -6,13 +6,13 @@ use Rattle.ccnet_frame.specs.Frame.{frame, judge_frame, body_of}
 use Rattle.ccnet_class.specs.Class.{class_of}
 use Rattle.bill_table.specs.Table.{table_size, is_table, read_table}
 use Rattle.ledger.specs.Calls.{After as AfterCall}
-use Rattle.ccnet_frame.specs.declared.Judged.{Judged}
-use Rattle.ccnet_frame.specs.declared.Judged.TheVariants.{Good as Passed, Refused as Failed}
+use Rattle.ccnet_frame.specs.Judged.{Judged}
+use Rattle.ccnet_frame.specs.Judged.{Good as Passed, Refused as Failed}
 use Rattle.ccnet_class.specs.declared.Class.{Class}
 use Rattle.ccnet_class.specs.declared.Class.TheVariants.{Ack, Nak, Illegal, State, Busy, Rejecting, Failing, Escrow, Stacked, Returned, Unknown, Table}
-use Rattle.validator_rules.specs.Limits.{least_room, command_limit, store_size, types, longest_tick}
+use Rattle.validator_rules.specs.Limits.{least_room, command_limit, store_size, longest_tick}
 use Rattle.validator_rules.specs.Line.{fresh_line, opened, remembers, is_open, heard, passed}
-use Rattle.validator_rules.specs.Bills.{poll, no_bills, booked_by, credited, remembered}
+use Rattle.validator_rules.specs.Bills.{poll, no_bill, no_bills, booked_by, credited, remembered}
 use Rattle.validator_rules.specs.declared.line.Line.{Line}
 use Rattle.validator_rules.specs.declared.line.Todo.{Todo}
 use Rattle.validator_rules.specs.declared.line.Todo.TheVariants.{Nothing as Rest, CloseDamaged, CloseSilent}
@@ -22,13 +22,13 @@ use Rattle.refusals.specs.declared.Declined.{Declined}
 use Rattle.refusals.specs.declared.Declined.TheVariants.{Room, Range, Open, Unquiet, Spent, Tick}
 use Rattle.validator_rules.specs.declared.session.Closing.{Closing}
 use Rattle.validator_rules.specs.declared.session.Closing.TheVariants.{Nothing, Acknowledged, NotAcknowledged, IllegalCommand, Answered, Damaged, Silent}
-use Rattle.validator_rules.specs.declared.session.Reply.{Reply}
-use Rattle.validator_rules.specs.declared.session.Reply.TheVariants.{NotDone, Done}
-use Rattle.validator_rules.specs.declared.session.Found.{Found}
-use Rattle.validator_rules.specs.declared.session.Found.TheVariants.{Bad, Good}
+use Rattle.validator_rules.specs.Reply.{Reply}
+use Rattle.validator_rules.specs.Reply.{NotDone, Done}
+use Rattle.validator_rules.specs.Found.{Found}
+use Rattle.validator_rules.specs.Found.{Bad, Good}
 use Rattle.validator_rules.specs.declared.session.Step.{Step}
 use Rattle.validator_rules.specs.declared.session.Session.{Session}
-use Rattle.validator_rules.specs.declared.session.Outcome.{Outcome}
+use Rattle.validator_rules.specs.Outcome.{Outcome}
 
 -- "the GET BILL TABLE command (41h)" (02, Q-1)
 abbrev pub get_table : ℕ
@@ -47,10 +47,10 @@ is_command code size =
 
 -- done, with nothing credited
 abbrev pub stepped : Line → ℕ → Closing → Step
-stepped l n c = record { line = l; bill = types; reply = Done n c }
+stepped l n c = record { line = l; bill = no_bill; reply = Done n c }
 
 abbrev pub refused_step : Line → Declined → Step
-refused_step l why = record { line = l; bill = types; reply = NotDone why }
+refused_step l why = record { line = l; bill = no_bill; reply = NotDone why }
 
 -- a step, with every byte of the room afterwards
 pub record StepAfter : Type 0 where

@@ -7,4 +7,4 @@ mod session;
 
 pub use bills::Bills;
 pub use line::{Heard, Hearing, Line, Phase, Todo, Turn};
-pub use session::{Closing, Found, Outcome, Reply, Session, Step};
+pub use session::{Closing, Outcome, Reply, Session, Step};

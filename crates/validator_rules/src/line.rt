@@ -17,9 +17,8 @@ pub struct Line {
     pub accepted: u64,
     // The code of the command that is open, or was last.
     pub code: u64,
-    // The bill type that the last listed answer to a POLL said was stacked; none, that is 24, where it said something else or there was
-    // no such answer.
-    pub last: usize,
+    // The bill type that the last listed answer to a POLL said was stacked; none where it said something else or there was no such answer.
+    pub last: Option<usize>,
     // Bytes of an answer gathered.
     pub gathered: usize,
     // The length of the answer: how many bytes it has, once its length byte has told; until then the most that it can have.

@@ -5,7 +5,6 @@ ghost use Rattle.validator_rules.specs.Session.{fresh_session};
 use crate::bills::Bills;
 use crate::line::{Line, Phase};
 use ccnet_class::Class;
-use refusals::Declined;
 
 // How a call closed the open command, if it did.
 #[derive(Clone, Copy)]
@@ -23,18 +22,14 @@ pub enum Closing {
 }
 
 // What a call answers: why it was declined, or how many bytes it put at the room's start and which closing it made.
-#[derive(Clone, Copy)]
-pub enum Reply {
-    NotDone(Declined),
-    Done { put: usize, closing: Closing },
-}
+pub type Reply = refusals::Reply<Closing>;
 
 // What a step leaves.
 #[derive(Clone, Copy)]
 pub struct Step {
     pub line: Line,
-    // The type of the bill that it credits; none, that is 24, where it credits none.
-    pub bill: usize,
+    // The type of the bill that it credits, if it credits one.
+    pub bill: Option<usize>,
     pub reply: Reply,
 }
 
@@ -49,18 +44,7 @@ pub struct Session {
 }
 
 // What a call by value leaves.
-#[derive(Clone, Copy)]
-pub struct Outcome {
-    pub session: Session,
-    pub reply: Reply,
-}
-
-// A gathered frame is bad, or good with what its body says.
-#[derive(Clone, Copy)]
-pub enum Found {
-    Bad,
-    Good(Class),
-}
+pub type Outcome = refusals::Outcome<Session, Closing>;
 
 impl Session {
     // Waits, in milliseconds, and limits: document 01, "The validator session".
@@ -89,7 +73,7 @@ impl Session {
                 left: Session::QUIET,
                 accepted: 0,
                 code: 0,
-                last: Session::TYPES,
+                last: None,
                 gathered: 0,
                 length: 0,
                 phase: Phase::Idle,

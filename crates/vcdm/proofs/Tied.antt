@@ -4,7 +4,7 @@ use Prim.Native.Nat.{ℕ}
 use mathlib.Core.Path.{ap}
 use mathlib.Core.List.{List}
 use Rattle.refusals.proofs.Tied.{Tied, tied}
-use Rattle.vcdm_rules.specs.declared.session.Outcome.{Outcome}
+use Rattle.vcdm_rules.specs.Outcome.{Outcome}
 use Rattle.vcdm.proofs.session.byte.Kinds as byte
 use Rattle.vcdm.proofs.session.byte.Reads as byte-Reads
 use Rattle.vcdm.proofs.session.tick.Kinds as tick

@@ -4,74 +4,70 @@ ghost use Rattle.vcdm_rules.specs.Account.{account_opened, account_paid, account
 ghost use Rattle.vcdm_rules.specs.Session.{closed_by, booked_by, request_booked};
 
 use exchange::sums;
+use exchange_rules::Sums;
 use vcdm_frame_rules::{Answer, Cassettes, Counts};
 use vcdm_rules::{Account, Asked, Closing, Reply};
 
+// What `change` makes of each cassette's sums and of the notes that were asked of it.
+fn each<F: Fn(Sums, u32) -> Sums>(was: Account, asked: Counts, change: F) -> Account
+    requires { F.IsAlwaysCallable change }
+    ensures top { F.post change was.top asked.top result.top }
+    ensures second { F.post change was.second asked.second result.second }
+    ensures third { F.post change was.third asked.third result.third }
+    ensures bottom { F.post change was.bottom asked.bottom result.bottom }
+{
+    Account {
+        top: change(was.top, asked.top),
+        second: change(was.second, asked.second),
+        third: change(was.third, asked.third),
+        bottom: change(was.bottom, asked.bottom),
+    }
+}
+
 // A request is accepted.
+#[tactic(auto, unfolding(vcdm_rules::specs::Account::account_opened))]
 fn opened(was: Account, asked: Counts) -> Account
     ensures { result ≡ account_opened was asked }
 {
-    let top = was.top;
-    let second = was.second;
-    let third = was.third;
-    let bottom = was.bottom;
-    Account {
-        top: sums::opened(top, asked.top),
-        second: sums::opened(second, asked.second),
-        third: sums::opened(third, asked.third),
-        bottom: sums::opened(bottom, asked.bottom),
-    }
+    each(was, asked, sums::opened)
 }
 
 // It is closed as refused.
+#[tactic(auto, unfolding(vcdm_rules::specs::Account::account_refused))]
 fn closed_refused(was: Account, asked: Counts) -> Account
     ensures { result ≡ account_refused was asked }
 {
-    let top = was.top;
-    let second = was.second;
-    let third = was.third;
-    let bottom = was.bottom;
-    Account {
-        top: sums::closed_refused(top, asked.top),
-        second: sums::closed_refused(second, asked.second),
-        third: sums::closed_refused(third, asked.third),
-        bottom: sums::closed_refused(bottom, asked.bottom),
-    }
+    each(was, asked, sums::closed_refused)
 }
 
 // It is closed as unknown.
+#[tactic(auto, unfolding(vcdm_rules::specs::Account::account_unknown))]
 fn closed_unknown(was: Account, asked: Counts) -> Account
     ensures { result ≡ account_unknown was asked }
 {
-    let top = was.top;
-    let second = was.second;
-    let third = was.third;
-    let bottom = was.bottom;
-    Account {
-        top: sums::closed_unknown(top, asked.top),
-        second: sums::closed_unknown(second, asked.second),
-        third: sums::closed_unknown(third, asked.third),
-        bottom: sums::closed_unknown(bottom, asked.bottom),
-    }
+    each(was, asked, sums::closed_unknown)
 }
 
 // A dispense is answered: EXIT pays, REJECT stands apart.
+#[tactic(auto, unfolding(vcdm_rules::specs::Account::account_paid))]
 fn paid(was: Account, asked: Counts, told: Cassettes) -> Account
     ensures { result ≡ account_paid was asked told }
 {
-    let top = was.top;
-    let second = was.second;
-    let third = was.third;
-    let bottom = was.bottom;
-    let first = told.top;
-    let next = told.second;
-    let other = told.third;
-    let last = told.bottom;
     Account {
-        top: sums::answered(top, asked.top, first.exit, first.rejects),
-        second: sums::answered(second, asked.second, next.exit, next.rejects),
-        third: sums::answered(third, asked.third, other.exit, other.rejects),
-        bottom: sums::answered(bottom, asked.bottom, last.exit, last.rejects),
+        top: sums::answered(was.top, asked.top, told.top.exit, told.top.rejects),
+        second: sums::answered(
+            was.second,
+            asked.second,
+            told.second.exit,
+            told.second.rejects,
+        ),
+        third: sums::answered(was.third, asked.third, told.third.exit, told.third.rejects),
+        bottom: sums::answered(
+            was.bottom,
+            asked.bottom,
+            told.bottom.exit,
+            told.bottom.rejects,
+        ),
     }
 }
 
@@ -80,32 +76,11 @@ fn answered(was: Account, asked: Counts, answer: Answer) -> Account
     ensures { result ≡ account_answered was asked answer }
 {
     match answer {
-        Answer::Reset { error: _ } => was,
-        Answer::Status {
-            error: _,
-            disp0: _,
-            disp1: _,
-            places: _,
-        } => was,
-        Answer::Purged {
-            error: _,
-            miss: _,
-            cassettes: _,
-            spare: _,
-        } => was,
-        Answer::Dispensed {
-            error: _,
-            serial: _,
-            cassettes,
-            spare: _,
-        } => paid(was, asked, cassettes),
-        Answer::Last {
-            last: _,
-            error: _,
-            serial: _,
-            cassettes: _,
-            spare: _,
-        } => was,
+        Answer::Dispensed { cassettes, .. } => paid(was, asked, cassettes),
+        Answer::Reset { .. }
+        | Answer::Status { .. }
+        | Answer::Purged { .. }
+        | Answer::Last { .. } => was,
     }
 }
 
@@ -113,12 +88,11 @@ fn answered(was: Account, asked: Counts, answer: Answer) -> Account
 fn close(account: Account, asked: Asked, closing: Closing) -> Account
     ensures { result ≡ closed_by account asked closing }
 {
-    let counts = asked.counts;
     match closing {
         Closing::Nothing => account,
-        Closing::Answered(answer) => answered(account, counts, answer),
-        Closing::Refused => closed_refused(account, counts),
-        Closing::Unknown => closed_unknown(account, counts),
+        Closing::Answered(answer) => answered(account, asked.counts, answer),
+        Closing::Refused => closed_refused(account, asked.counts),
+        Closing::Unknown => closed_unknown(account, asked.counts),
     }
 }
 
@@ -127,8 +101,8 @@ pub fn booked(account: Account, asked: Asked, reply: Reply) -> Account
     ensures { result ≡ booked_by account asked reply }
 {
     match reply {
-        Reply::NotDone(_) => account,
-        Reply::Done { put: _, closing } => close(account, asked, closing),
+        Ok(done) => close(account, asked, done.closing),
+        Err(_) => account,
     }
 }
 
@@ -136,11 +110,9 @@ pub fn booked(account: Account, asked: Asked, reply: Reply) -> Account
 pub fn booked_request(account: Account, asked: Asked, reply: Reply) -> Account
     ensures { result ≡ request_booked account asked reply }
 {
-    match reply {
-        Reply::NotDone(_) => account,
-        Reply::Done { put: _, closing: _ } => {
-            let counts = asked.counts;
-            opened(account, counts)
-        }
+    if reply.is_ok() {
+        opened(account, asked.counts)
+    } else {
+        account
     }
 }

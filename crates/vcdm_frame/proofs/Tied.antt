@@ -3,7 +3,7 @@
 use Prim.Native.Nat.{ℕ}
 use mathlib.Core.Path.{ap}
 use mathlib.Core.List.{List}
-use Rattle.refusals.specs.declared.Put.{Put}
+use Rattle.refusals.specs.Put.{Put}
 use Rattle.refusals.proofs.Tied.{Tied, tied}
 use Rattle.vcdm_frame.proofs.answer.answer_length.Kinds as answer-length
 use Rattle.vcdm_frame.proofs.answer.answer_length.Reads as answer-length-reads

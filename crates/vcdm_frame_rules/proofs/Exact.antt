@@ -14,8 +14,8 @@ use Rattle.vcdm_frame_rules.specs.Command.{counts, counts_fit, command_fits, ask
 use Rattle.vcdm_frame_rules.specs.Answer.{answer_frame, answer_refusals, write_answer, answer_in, answer_faults, read_answer}
 use Rattle.vcdm_frame_rules.specs.Promises.{ExactlyWhen, InOrder, SentAsWritten, Columns, Taken}
 use Rattle.vcdm_frame_rules.specs.declared.command.Counts.{Counts}
-use Rattle.vcdm_frame_rules.specs.declared.command.CommandRead.TheVariants.{Refused}
-use Rattle.vcdm_frame_rules.specs.declared.answer.AnswerRead.TheVariants.{Read as Found, Refused as NotRead}
+use Rattle.vcdm_frame_rules.specs.CommandRead.{Refused}
+use Rattle.vcdm_frame_rules.specs.AnswerRead.{Read as Found, Refused as NotRead}
 use Rattle.vcdm_frame_rules.proofs.Codes.{asks-notes, dispense-known}
 
 pub exactly-when : ExactlyWhen

@@ -15,7 +15,7 @@ use Rattle.refusals.proofs.Rules.{by_cases, fails-false}
 use Rattle.xor_frame.specs.Layout.{Field, free, all_in_range, all_bytes, all_fit, all_values, in_range}
 use Rattle.xor_frame.specs.Frame.{eot, soh, stx, closed, frame, code_of, faults}
 use Rattle.xor_frame.specs.Parts.{field_faults, outer_faults}
-use Rattle.xor_frame.specs.declared.frame.Verdict.TheVariants.{Good, Bad}
+use Rattle.xor_frame.specs.Verdict.{Good, Bad}
 use Rattle.xor_frame.proofs.Reading.{after, reading}
 use Rattle.xor_frame.proofs.Raw.{raw_values, raw-fits, raw-values, read-raw}
 use Rattle.vcdm_frame_rules.specs.Table.{unit_id, purge_code, dispense_code, last_code, passed, measured, kind, serial, last_serial, cassette_fields, spare_fields, table, line_in, known, line, asked_fields, command_fields, answer_fields, command_length, answer_length}
@@ -23,13 +23,13 @@ use Rattle.vcdm_frame_rules.specs.Command.{sum_fits, counts_fit, serial_fits, co
 use Rattle.vcdm_frame_rules.specs.Answer.{answer_code, cassette_values, spare_values, answer_values, answer_fits, answer_frame, answer_in, read_answer}
 use Rattle.vcdm_frame_rules.specs.Parts.{asked_read, fields_read, lowered_counts, paid_from, cassettes_from, spare_from, place_from, places_from, paid_fits, cassettes_fit, names_fit, place_fits, places_fit, fits_by, answer_from, cassette_bytes, raised_command, status_frame, counted_frame, last_frame, raised_answer}
 use Rattle.vcdm_frame_rules.specs.declared.command.Counts.{Counts}
-use Rattle.vcdm_frame_rules.specs.declared.command.CommandRead.TheVariants.{Read as Command, Refused as NoCommand}
+use Rattle.vcdm_frame_rules.specs.CommandRead.{Read as Command, Refused as NoCommand}
 use Rattle.vcdm_frame_rules.specs.declared.answer.Paid.{Paid}
 use Rattle.vcdm_frame_rules.specs.declared.answer.Cassettes.{Cassettes}
 use Rattle.vcdm_frame_rules.specs.declared.answer.Spare.{Spare}
 use Rattle.vcdm_frame_rules.specs.declared.answer.Answer.{Answer}
 use Rattle.vcdm_frame_rules.specs.declared.answer.Answer.TheVariants.{Reset, Status, Purged, Dispensed, Last}
-use Rattle.vcdm_frame_rules.specs.declared.answer.AnswerRead.TheVariants.{Read, Refused}
+use Rattle.vcdm_frame_rules.specs.AnswerRead.{Read, Refused}
 use Rattle.xor_frame.specs.declared.frame.Fault.TheVariants.{Field as Outside}
 use Rattle.vcdm_frame_rules.proofs.Codes.{by_code, not_known, asked-sound, answers-sound}
 

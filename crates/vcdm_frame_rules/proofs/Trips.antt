@@ -1,4 +1,5 @@
 -- Reading undoes writing and writing undoes reading, for commands and for answers of every code. Assumes nothing.
+use Rattle.std.proofs.lemmas.Result.{IfOk-at_ok}
 use Prim.Native.Nat.{ℕ, zero, suc, ◌+◌, ◌-◌, ◌≤◌}
 use mathlib.Core.Path.{◌≡◌, refl, sym, ap, ap₂, ◌∙◌, subst}
 use mathlib.Core.Bool.{Bool, true, false}
@@ -21,10 +22,10 @@ use Rattle.vcdm_frame_rules.specs.Command.{sum_fits, counts_fit, serial_fits, co
 use Rattle.vcdm_frame_rules.specs.Answer.{answer_code, answer_values, answer_fits, answer_frame, answer_refusals, write_answer, answer_in, answer_faults, read_answer}
 use Rattle.vcdm_frame_rules.specs.Promises.{CommandTrips, AnswerTrips}
 use Rattle.vcdm_frame_rules.specs.declared.command.Counts.{Counts}
-use Rattle.vcdm_frame_rules.specs.declared.command.CommandRead.TheVariants.{Read, Refused}
+use Rattle.vcdm_frame_rules.specs.CommandRead.{Read, Refused}
 use Rattle.vcdm_frame_rules.specs.declared.answer.Answer.{Answer}
 use Rattle.vcdm_frame_rules.specs.declared.answer.Answer.TheVariants.{Reset, Status, Purged, Dispensed, Last}
-use Rattle.vcdm_frame_rules.specs.declared.answer.AnswerRead.TheVariants.{Read as Found, Refused as NotRead}
+use Rattle.vcdm_frame_rules.specs.AnswerRead.{Read as Found, Refused as NotRead}
 use Rattle.vcdm_frame_rules.proofs.Codes.{by_code, not_known, answer-known, answer-sized, asked-sound, answers-sound}
 
 -- ---- rules behind rules
@@ -141,7 +142,12 @@ command-passed s code c n e =
     absurd (let z : ◌≡◌ {A = ℕ} 0 1 = cc in omega arith))
     (λ none.
     let r : command_in (code_of s) s ≡ Read code c n = sym (none-judged Refused (command_in (code_of s) s) (command_faults s) none) ∙ e in
-    record { none = none; same_code = cc; counts = cc; serial = cc })
+    record {
+      none = none;
+      same_code = IfOk-at_ok (λ x. x.code ≡ code) (sym r) refl;
+      counts = IfOk-at_ok (λ x. x.counts ≡ c) (sym r) refl;
+      serial = IfOk-at_ok (λ x. x.serial ≡ n) (sym r) refl;
+    })
     (first_or_none (command_faults s))
 
 command-again : (s room : List ℕ) → NoneOf (command_faults s) → length s ≤ length room

@@ -15,8 +15,8 @@ use Rattle.vcdm_frame_rules.specs.declared.answer.Place.{Place}
 use Rattle.vcdm_frame_rules.specs.declared.answer.Places.{Places}
 use Rattle.vcdm_frame_rules.specs.declared.answer.Answer.{Answer}
 use Rattle.vcdm_frame_rules.specs.declared.answer.Answer.TheVariants.{Reset, Status, Purged, Dispensed, Last}
-use Rattle.vcdm_frame_rules.specs.declared.answer.AnswerRead.{AnswerRead}
-use Rattle.vcdm_frame_rules.specs.declared.answer.AnswerRead.TheVariants.{Read, Refused}
+use Rattle.vcdm_frame_rules.specs.AnswerRead.{AnswerRead}
+use Rattle.vcdm_frame_rules.specs.AnswerRead.{Read, Refused}
 
 -- the code of each answer
 abbrev pub answer_code : Answer → ℕ

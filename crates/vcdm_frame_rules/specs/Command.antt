@@ -10,8 +10,8 @@ use Rattle.xor_frame.specs.declared.frame.Fault.{Fault}
 use Rattle.xor_frame.specs.declared.frame.Fault.TheVariants.{Field as Outside}
 use Rattle.vcdm_frame_rules.specs.Table.{unit_id, known, line, command_fields, command_length}
 use Rattle.vcdm_frame_rules.specs.declared.command.Counts.{Counts}
-use Rattle.vcdm_frame_rules.specs.declared.command.CommandRead.{CommandRead}
-use Rattle.vcdm_frame_rules.specs.declared.command.CommandRead.TheVariants.{Read, Refused}
+use Rattle.vcdm_frame_rules.specs.CommandRead.{CommandRead}
+use Rattle.vcdm_frame_rules.specs.CommandRead.{Read, Refused}
 
 abbrev pub counts : ℕ → ℕ → ℕ → ℕ → Counts
 counts t s d b = record { top = t; second = s; third = d; bottom = b }

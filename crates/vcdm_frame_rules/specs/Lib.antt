@@ -4,3 +4,5 @@ pub mod Command
 pub mod Answer
 pub mod Parts
 pub mod Promises
+pub mod CommandRead
+pub mod AnswerRead

@@ -7,8 +7,8 @@ use Rattle.xor_frame.specs.Parts.{lowered, field_faults}
 use Rattle.vcdm_frame_rules.specs.Table.{unit_id, reset_code, status_code, purge_code, dispense_code, last_code, passed, measured, kind, serial, last_serial, command_fields}
 use Rattle.vcdm_frame_rules.specs.Command.{command_in, sum_faults}
 use Rattle.vcdm_frame_rules.specs.declared.command.Counts.{Counts}
-use Rattle.vcdm_frame_rules.specs.declared.command.CommandRead.{CommandRead}
-use Rattle.vcdm_frame_rules.specs.declared.command.CommandRead.TheVariants.{Refused}
+use Rattle.vcdm_frame_rules.specs.CommandRead.{CommandRead}
+use Rattle.vcdm_frame_rules.specs.CommandRead.{Refused}
 use Rattle.vcdm_frame_rules.specs.declared.answer.Paid.{Paid}
 use Rattle.vcdm_frame_rules.specs.declared.answer.Cassettes.{Cassettes}
 use Rattle.vcdm_frame_rules.specs.declared.answer.Spare.{Spare}
@@ -16,8 +16,8 @@ use Rattle.vcdm_frame_rules.specs.declared.answer.Place.{Place}
 use Rattle.vcdm_frame_rules.specs.declared.answer.Places.{Places}
 use Rattle.vcdm_frame_rules.specs.declared.answer.Answer.{Answer}
 use Rattle.vcdm_frame_rules.specs.declared.answer.Answer.TheVariants.{Reset, Status, Purged, Dispensed, Last}
-use Rattle.vcdm_frame_rules.specs.declared.answer.AnswerRead.{AnswerRead}
-use Rattle.vcdm_frame_rules.specs.declared.answer.AnswerRead.TheVariants.{Read, Refused as NotRead}
+use Rattle.vcdm_frame_rules.specs.AnswerRead.{AnswerRead}
+use Rattle.vcdm_frame_rules.specs.AnswerRead.{Read, Refused as NotRead}
 
 -- what is read of a frame in which the fields alone are left to test
 unfoldable pub asked_read : ℕ → List ℕ → CommandRead

@@ -1,5 +1,4 @@
-// What an answer says, and what reading one finds. EXIT and REJECT are numbers; every other field is kept as its byte.
-use xor_frame::Fault;
+// What an answer says. EXIT and REJECT are numbers; every other field is kept as its byte.
 
 // What an answer says of one cassette: the notes that went out, those rejected, and the byte that names the cassette.
 #[derive(Clone, Copy)]
@@ -80,11 +79,4 @@ pub enum Answer {
         cassettes: Cassettes,
         spare: Spare,
     },
-}
-
-// What reading an answer frame finds.
-#[derive(Clone, Copy)]
-pub enum AnswerRead {
-    Read(Answer),
-    Refused(Fault),
 }

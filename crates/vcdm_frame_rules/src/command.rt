@@ -1,5 +1,4 @@
-// What a command asks, and what reading one finds.
-use xor_frame::Fault;
+// What a command asks.
 
 // A count for each cassette, the top one first, as 000 names them.
 #[derive(Clone, Copy)]
@@ -10,13 +9,10 @@ pub struct Counts {
     pub bottom: u32,
 }
 
-// What reading a command frame finds. Where no notes are asked each count is 0, and so is the serial.
+// A command's code, its counts and its serial. Where no notes are asked each count is 0, and so is the serial.
 #[derive(Clone, Copy)]
-pub enum CommandRead {
-    Read {
-        code: u8,
-        counts: Counts,
-        serial: u8,
-    },
-    Refused(Fault),
+pub struct Command {
+    pub code: u8,
+    pub counts: Counts,
+    pub serial: u8,
 }

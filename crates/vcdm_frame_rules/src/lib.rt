@@ -6,8 +6,8 @@ mod answer;
 mod command;
 mod table;
 
-pub use answer::{Answer, AnswerRead, Cassettes, Paid, Place, Places, Spare};
-pub use command::{CommandRead, Counts};
+pub use answer::{Answer, Cassettes, Paid, Place, Places, Spare};
+pub use command::{Command, Counts};
 pub use table::{
     DISPENSE, FIRST_SERIAL, LAST_SERIAL, LAST_STATUS, PURGE, REPEATED, RESET, STATUS, UNIT_ID,
 };

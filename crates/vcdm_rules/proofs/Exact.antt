@@ -7,8 +7,8 @@ use lib.ListN.{set, take}
 use Rattle.vcdm_frame_rules.specs.Answer.{read_answer}
 use Rattle.vcdm_frame_rules.specs.declared.command.Counts.{Counts}
 use Rattle.vcdm_frame_rules.specs.declared.answer.Answer.{Answer}
-use Rattle.vcdm_frame_rules.specs.declared.answer.AnswerRead.{AnswerRead}
-use Rattle.vcdm_frame_rules.specs.declared.answer.AnswerRead.TheVariants.{Read, Refused as NotRead}
+use Rattle.vcdm_frame_rules.specs.AnswerRead.{AnswerRead}
+use Rattle.vcdm_frame_rules.specs.AnswerRead.{Read, Refused as NotRead}
 use Rattle.ledger.specs.Calls.{IsDone}
 use Rattle.ledger.proofs.Declining.{told-apart, rising, given-exactly}
 use Rattle.exchange_rules.specs.Exchange.{bad_frame, heard, passed}

@@ -15,8 +15,8 @@ use Rattle.vcdm_frame_rules.specs.Answer.{answer_code, answer_in, answer_faults,
 use Rattle.vcdm_frame_rules.specs.declared.command.Counts.{Counts}
 use Rattle.vcdm_frame_rules.specs.declared.answer.Answer.{Answer}
 use Rattle.vcdm_frame_rules.specs.declared.answer.Answer.TheVariants.{Reset, Status, Purged, Dispensed, Last}
-use Rattle.vcdm_frame_rules.specs.declared.answer.AnswerRead.{AnswerRead}
-use Rattle.vcdm_frame_rules.specs.declared.answer.AnswerRead.TheVariants.{Read, Refused as NotRead}
+use Rattle.vcdm_frame_rules.specs.AnswerRead.{AnswerRead}
+use Rattle.vcdm_frame_rules.specs.AnswerRead.{Read, Refused as NotRead}
 use Rattle.vcdm_frame_rules.proofs.Trips.{answer-passed, read-code}
 use Rattle.ledger.specs.Told.{bad, void}
 use Rattle.vcdm_rules.specs.Account.{account_answered}

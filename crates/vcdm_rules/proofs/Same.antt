@@ -1,5 +1,7 @@
 -- The session of the four-cassette unit is the shared session over its unit, its serial apart: each call, as it stands in the contracts, is that call. Assumes nothing.
-use Prim.Native.Nat.{ℕ, ◌≤◌}
+use Rattle.vcdm_rules.specs.declared.session.Closing.{Closing}
+use Rattle.std.specs.Prelude.{Ok}
+use Prim.Native.Nat.{ℕ}
 use mathlib.Core.Path.{◌≡◌, refl, sym, ap, ◌∙◌, subst}
 use mathlib.Core.Bool.{Bool, true, false, cond, and-true, and-false}
 use mathlib.Core.List.{List, [], ◌∷◌}
@@ -15,8 +17,8 @@ use Rattle.vcdm_frame_rules.specs.Command.{serial_fits, askable, sendable}
 use Rattle.vcdm_frame_rules.specs.Answer.{read_answer}
 use Rattle.vcdm_frame_rules.specs.declared.command.Counts.{Counts}
 use Rattle.vcdm_frame_rules.specs.declared.answer.Answer.{Answer}
-use Rattle.vcdm_frame_rules.specs.declared.answer.AnswerRead.{AnswerRead}
-use Rattle.vcdm_frame_rules.specs.declared.answer.AnswerRead.TheVariants.{Read, Refused as NotRead}
+use Rattle.vcdm_frame_rules.specs.AnswerRead.{AnswerRead}
+use Rattle.vcdm_frame_rules.specs.AnswerRead.{Read, Refused as NotRead}
 use Rattle.vcdm_frame_rules.proofs.Codes.{asks-notes}
 use Rattle.exchange_rules.specs.Exchange.{heard, bad_frame, passed}
 use Rattle.exchange_rules.specs.Machine.{Box, left}
@@ -27,7 +29,7 @@ use Rattle.exchange_rules.specs.declared.line.Todo.{Todo}
 use Rattle.exchange_rules.specs.declared.line.Todo.TheVariants.{Nothing as Rest, HandOver, Nak, LastNak, CloseRefused, CloseUnknown}
 use Rattle.exchange_rules.specs.declared.line.Heard.{Heard}
 use Rattle.exchange_rules.specs.declared.line.Heard.TheVariants.{Keep, Judge, Do}
-use Rattle.vcdm_rules.specs.Session.{StepAfter, ByteAfter, OpeningAfter, opening_after, refused_opening, byte_after, step_after, refused_step, following, serial_for, serial_after, serial_left, acted, bad_step, finding, found_step, judged_step, judge_step, byte_acted, byte_refusals, tick_refusals, request_refusals, byte_step, tick_step, request_step, booked_by, request_booked, session_request, session_byte, session_tick}
+use Rattle.vcdm_rules.specs.Session.{StepAfter, ByteAfter, OpeningAfter, opening_after, refused_opening, byte_after, step_after, refused_step, following, serial_for, serial_after, serial_left, serial_closed, acted, bad_step, finding, found_step, judged_step, judge_step, byte_acted, byte_refusals, tick_refusals, request_refusals, byte_step, tick_step, request_step, booked_by, request_booked, session_request, session_byte, session_tick}
 use Rattle.vcdm_rules.specs.Calls.{Call, request, byte, tick, Request, Counted, counted_by, called_counted, deed, returned, ending, host}
 use Rattle.vcdm_rules.specs.Unit.{asked_of, plain_finding, verdict, unit, request_of, box, means, lent, plain_closing}
 use Rattle.vcdm_rules.specs.declared.account.Account.{Account}
@@ -36,14 +38,14 @@ use Rattle.vcdm_rules.specs.declared.session.Finding.{Finding}
 use Rattle.vcdm_rules.specs.declared.session.Finding.TheVariants.{Bad, Good, Void}
 use Rattle.vcdm_rules.specs.declared.session.Closing.{Closing}
 use Rattle.vcdm_rules.specs.declared.session.Closing.TheVariants.{Nothing, Answered, Refused, Unknown}
-use Rattle.vcdm_rules.specs.declared.session.Reply.{Reply}
-use Rattle.vcdm_rules.specs.declared.session.Reply.TheVariants.{NotDone, Done}
+use Rattle.vcdm_rules.specs.Reply.{Reply}
+use Rattle.vcdm_rules.specs.Reply.{NotDone, Done}
 
 -- ---- what the shared session has of it
 
 abbrev pub plain-reply : Reply → machine.Reply Answer
 plain-reply (NotDone why) = gave why
-plain-reply (Done n c) = did n (plain_closing c)
+plain-reply (Ok effect) = did effect.put (plain_closing effect.closing)
 
 abbrev pub plain-after : AfterCall Counted Reply → AfterCall (Box Request Account) (machine.Reply Answer)
 plain-after w = record { session = box w.session; reply = plain-reply w.reply; room = w.room }
@@ -76,12 +78,15 @@ unfolding serial_after
 after-fits code s h = pick Fits (same code 0x52) _ _ (λ e. following-fits s h) (λ n. h)
 
 -- whatever a byte or a tick answered, the next one stays
-pub left-serial : (p : Reply) (own s : ℕ) → serial_left p own s ≡ s
-left-serial (NotDone why) own s = refl
-left-serial (Done n Nothing) own s = refl
-left-serial (Done n (Answered answer)) own s = refl
-left-serial (Done n Refused) own s = refl
-left-serial (Done n Unknown) own s = refl
+closed-serial : (c : Closing) (own s : ℕ) → serial_closed c own s ≡ s
+closed-serial Nothing own s = refl
+closed-serial (Answered answer) own s = refl
+closed-serial Refused own s = refl
+closed-serial Unknown own s = refl
+
+pub left_serial : (p : Reply) (own s : ℕ) → serial_left p own s ≡ s
+left_serial (NotDone why) own s = refl
+left_serial (Ok effect) own s = closed-serial effect.closing own s
 
 -- so it never stands in the way: what can be asked can be sent
 serial-fits : (code s : ℕ) → Fits s → (serial_fits (line code).asks (serial_for code s)).test ≡ true
@@ -137,12 +142,15 @@ module _ (q : Request) (r : List ℕ) where
 -- ---- the three calls
 
 -- the account is booked alike
+booked-done : (x : Account) (q : Request) (n : ℕ) (c : Closing) → booked_by x (asked_of q) (Done n c) ≡ machine.booked_by unit x q (plain-reply (Done n c))
+booked-done x q n Nothing = refl
+booked-done x q n (Answered answer) = refl
+booked-done x q n Refused = refl
+booked-done x q n Unknown = refl
+
 booked-same : (x : Account) (q : Request) (p : Reply) → booked_by x (asked_of q) p ≡ machine.booked_by unit x q (plain-reply p)
 booked-same x q (NotDone why) = refl
-booked-same x q (Done n Nothing) = refl
-booked-same x q (Done n (Answered answer)) = refl
-booked-same x q (Done n Refused) = refl
-booked-same x q (Done n Unknown) = refl
+booked-same x q (Ok effect) = booked-done x q effect.put effect.closing
 
 -- a session whose command is said by its request, and whose serial its caller counts
 abbrev with : Line → Request → Account → List ℕ → ℕ → Counted
@@ -244,7 +252,7 @@ session-same x c k =
 -- what a call returned, its deed and its room are the same
 pub saying-same : (p : Reply) → saying plain_closing (returned p) ≡ plain-reply p
 saying-same (NotDone why) = refl
-saying-same (Done n c) = refl
+saying-same (Ok effect) = refl
 
 pub deed-same : (s : ℕ) (c : Call) → deed s c ≡ machine.deed (means s c)
 deed-same s (request code n r) = refl
@@ -279,9 +287,9 @@ keeps-next x (request code n r) k =
     (λ none. record { span = refl; serial = ap (serial_after code) k.serial; fits = after-fits code x.serial k.fits }) in
     record { span = w.span; serial = w.serial; fits = w.fits }
 keeps-next x (byte b r) k =
-    record { span = k.span; serial = left-serial (called_counted x (byte b r)).reply x.session.asked.serial x.session.serial ∙ k.serial; fits = k.fits }
+    record { span = k.span; serial = left_serial (called_counted x (byte b r)).reply x.session.asked.serial x.session.serial ∙ k.serial; fits = k.fits }
 keeps-next x (tick ms r) k =
-    record { span = k.span; serial = left-serial (called_counted x (tick ms r)).reply x.session.asked.serial x.session.serial ∙ k.serial; fits = k.fits }
+    record { span = k.span; serial = left_serial (called_counted x (tick ms r)).reply x.session.asked.serial x.session.serial ∙ k.serial; fits = k.fits }
 
 abbrev pub session : SessionOver unit host
 session =

@@ -1,8 +1,9 @@
 -- The serial in every frame is the one that the history gives; and the only 04h that we send is the one that opens a command. Assumes nothing.
+use Rattle.std.specs.Prelude.{Ok}
 use Prim.Native.Nat.{ℕ}
 use mathlib.Core.Path.{◌≡◌, refl, sym, ap, ◌∙◌, subst}
 use mathlib.Core.List.{List, [], ◌∷◌}
-use mathlib.Core.Logic.{◌⊎◌, inl, inr, ⊎_elim}
+use mathlib.Core.Logic.{inl, inr, ⊎_elim}
 use Rattle.ledger.specs.Events.{Left, asks, hears, waits, own, declined, done, History, bytes}
 use Rattle.ledger.specs.Account.{Ending, Command, followed, commands}
 use Rattle.ledger.specs.Calls.{told, seen, run, history_from}
@@ -12,8 +13,8 @@ use Rattle.vcdm_rules.specs.Calls.{Call, request, byte, tick, Request, Own, Coun
 use Rattle.vcdm_rules.specs.Unit.{vcdm, layout}
 use Rattle.vcdm_rules.specs.History.{Numbered, Plainly, PutPlainly, SerialsByHistory, OnlyOpening}
 use Rattle.vcdm_rules.specs.Promises.{Runs}
-use Rattle.vcdm_rules.specs.declared.session.Reply.{Reply}
-use Rattle.vcdm_rules.specs.declared.session.Reply.TheVariants.{NotDone, Done}
+use Rattle.vcdm_rules.specs.Reply.{Reply}
+use Rattle.vcdm_rules.specs.Reply.{NotDone}
 use Rattle.vcdm_rules.proofs.Same.{following-fits}
 use Rattle.vcdm_rules.proofs.Demand3.{demand3, after-calls}
 
@@ -24,20 +25,20 @@ counts-on : (h : History Request Own Ending) (c : Call) (p : Reply) (room : List
     → next_serial (told ending (deed (next_serial h) c) (returned p) room ∷ h) ≡ counted_by c p (next_serial h)
 unfolding next_serial serial_after
 counts-on h (request code n r) (NotDone why) room = refl
-counts-on h (request code n r) (Done k x) room = refl
+counts-on h (request code n r) (Ok effect) room = refl
 counts-on h (byte b r) (NotDone why) room = refl
-counts-on h (byte b r) (Done k x) room = refl
+counts-on h (byte b r) (Ok effect) room = refl
 counts-on h (tick ms r) (NotDone why) room = refl
-counts-on h (tick ms r) (Done k x) room = refl
+counts-on h (tick ms r) (Ok effect) room = refl
 
 numbers_on : (h : History Request Own Ending) (c : Call) (p : Reply) (room : List ℕ) → Numbered h
     → Numbered (told ending (deed (next_serial h) c) (returned p) room ∷ h)
 numbers_on h (request code n r) (NotDone why) room k = k
-numbers_on h (request code n r) (Done i x) room k = (refl, k)
+numbers_on h (request code n r) (Ok effect) room k = (refl, k)
 numbers_on h (byte b r) (NotDone why) room k = k
-numbers_on h (byte b r) (Done i x) room k = k
+numbers_on h (byte b r) (Ok effect) room k = k
 numbers_on h (tick ms r) (NotDone why) room k = k
-numbers_on h (tick ms r) (Done i x) room k = k
+numbers_on h (tick ms r) (Ok effect) room k = k
 
 -- what holds of a caller that has counted so far
 record Counts (x : Counted) (h : History Request Own Ending) : Type 0 where

@@ -18,8 +18,8 @@ use Rattle.vcdm_frame_rules.specs.Answer.{answer_code, answer_fits, read_answer}
 use Rattle.vcdm_frame_rules.specs.declared.command.Counts.{Counts}
 use Rattle.vcdm_frame_rules.specs.declared.answer.Answer.{Answer}
 use Rattle.vcdm_frame_rules.specs.declared.answer.Answer.TheVariants.{Reset, Status, Purged, Dispensed, Last}
-use Rattle.vcdm_frame_rules.specs.declared.answer.AnswerRead.{AnswerRead}
-use Rattle.vcdm_frame_rules.specs.declared.answer.AnswerRead.TheVariants.{Read, Refused as NotRead}
+use Rattle.vcdm_frame_rules.specs.AnswerRead.{AnswerRead}
+use Rattle.vcdm_frame_rules.specs.AnswerRead.{Read, Refused as NotRead}
 use Rattle.vcdm_frame_rules.proofs.Codes.{by_code, no_line, asks-notes, command-most, answer-most}
 use Rattle.vcdm_frame_rules.proofs.Trips.{command-length, answer-passed, answer-fits}
 use Rattle.exchange_rules.specs.Sums.{sums_opened, sums_answered, sums_refused, sums_unknown}

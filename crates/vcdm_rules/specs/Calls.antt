@@ -1,6 +1,6 @@
 -- Any calls at all on a session of the four-cassette unit, as their caller sees them. The caller gives no serial, and need not: beside the session it counts which one the
 -- next dispense takes, from what the calls returned alone. So no history reads the serial that the session stores.
-use Rattle.std.specs.Prelude.{ℕ, cond, List, [], ◌∷◌}
+use Rattle.std.specs.Prelude.{ℕ, cond, List, [], ◌∷◌, Ok}
 use Rattle.ledger.specs.Events.{Deed, asks, hears, waits, own, Left, goes_on, closes, declined, done, History}
 use Rattle.ledger.specs.Account.{Ending, answered, refused, unknown}
 use Rattle.ledger.specs.Calls.{After as AfterCall, Returned, gave, did, Host, history_from}
@@ -8,8 +8,8 @@ use Rattle.vcdm_frame_rules.specs.declared.command.Counts.{Counts}
 use Rattle.vcdm_rules.specs.Session.{After, following, pays, serial_for, serial_after, fresh_session, session_request, session_byte, session_tick}
 use Rattle.vcdm_rules.specs.declared.session.Closing.{Closing}
 use Rattle.vcdm_rules.specs.declared.session.Closing.TheVariants.{Nothing, Answered, Refused, Unknown}
-use Rattle.vcdm_rules.specs.declared.session.Reply.{Reply}
-use Rattle.vcdm_rules.specs.declared.session.Reply.TheVariants.{NotDone, Done}
+use Rattle.vcdm_rules.specs.Reply.{Reply}
+use Rattle.vcdm_rules.specs.Reply.{NotDone}
 use Rattle.vcdm_rules.specs.declared.session.Session.{Session}
 
 -- a call, with any arguments and any room
@@ -44,7 +44,7 @@ fresh_counted = record { session = fresh_session; serial = 0x21 }
 -- "a newly accepted dispense takes the next"
 abbrev pub counted_by : Call → Reply → ℕ → ℕ
 counted_by (request code n r) (NotDone why) s = s
-counted_by (request code n r) (Done k c) s = serial_after code s
+counted_by (request code n r) (Ok effect) s = serial_after code s
 counted_by (byte b r) p s = s
 counted_by (tick ms r) p s = s
 
@@ -64,7 +64,7 @@ deed s (tick ms r) = waits ms
 -- what a call returned
 abbrev pub returned : Reply → Returned Closing
 returned (NotDone why) = gave why
-returned (Done n closing) = did n closing
+returned (Ok effect) = did effect.put effect.closing
 
 -- of an answer the history has no more than that it came
 abbrev pub ending : Closing → Left Ending

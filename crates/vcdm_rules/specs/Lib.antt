@@ -5,3 +5,6 @@ pub mod Calls
 pub mod Unit
 pub mod History
 pub mod Promises
+pub mod Reply
+pub mod Step
+pub mod Outcome

@@ -1,16 +1,16 @@
 -- The session of the four-cassette unit, call by call (02, Q-3; 01, "The dispenser session" and "Numbers a call can answer").
-use Rattle.std.specs.Prelude.{ℕ, ◌+◌, Bool, cond, List, [], ◌∷◌, eqb, ltb, length, take, set, replicate}
+use Rattle.std.specs.Prelude.{ℕ, ◌+◌, Bool, cond, List, [], ◌∷◌, eqb, ltb, length, take, set, replicate, Ok}
 use Rattle.refusals.specs.Rules.{Rule, says, under, at_most, within, isnt, judged, ◌gives◌}
-use Rattle.refusals.specs.declared.Put.{Put}
-use Rattle.refusals.specs.declared.Put.TheVariants.{Bytes, Refused as NotPut}
+use Rattle.refusals.specs.Put.{Put}
+use Rattle.refusals.specs.Put.{Bytes, Refused as NotPut}
 use Rattle.vcdm_frame_rules.specs.Table.{reset_code, dispense_code, answer_length}
 use Rattle.vcdm_frame_rules.specs.Command.{no_counts, askable, write_command}
 use Rattle.vcdm_frame_rules.specs.Answer.{answer_code, read_answer}
 use Rattle.vcdm_frame_rules.specs.declared.command.Counts.{Counts}
 use Rattle.vcdm_frame_rules.specs.declared.answer.Answer.{Answer}
 use Rattle.vcdm_frame_rules.specs.declared.answer.Answer.TheVariants.{Reset, Status, Purged, Dispensed, Last}
-use Rattle.vcdm_frame_rules.specs.declared.answer.AnswerRead.{AnswerRead}
-use Rattle.vcdm_frame_rules.specs.declared.answer.AnswerRead.TheVariants.{Read, Refused as NotRead}
+use Rattle.vcdm_frame_rules.specs.AnswerRead.{AnswerRead}
+use Rattle.vcdm_frame_rules.specs.AnswerRead.{Read, Refused as NotRead}
 use Rattle.exchange_rules.specs.Limits.{quiet, long_quiet, least_room, command_limit, longest_tick}
 use Rattle.exchange_rules.specs.Exchange.{fresh_line, opened, closed, is_open, heard, bad_frame, passed}
 use Rattle.exchange_rules.specs.declared.line.Line.{Line}
@@ -28,12 +28,12 @@ use Rattle.vcdm_rules.specs.declared.session.Finding.{Finding}
 use Rattle.vcdm_rules.specs.declared.session.Finding.TheVariants.{Bad, Good, Void}
 use Rattle.vcdm_rules.specs.declared.session.Closing.{Closing}
 use Rattle.vcdm_rules.specs.declared.session.Closing.TheVariants.{Nothing, Answered, Refused, Unknown}
-use Rattle.vcdm_rules.specs.declared.session.Reply.{Reply}
-use Rattle.vcdm_rules.specs.declared.session.Reply.TheVariants.{NotDone, Done}
-use Rattle.vcdm_rules.specs.declared.session.Step.{Step}
+use Rattle.vcdm_rules.specs.Reply.{Reply}
+use Rattle.vcdm_rules.specs.Reply.{NotDone, Done}
+use Rattle.vcdm_rules.specs.Step.{Step}
 use Rattle.vcdm_rules.specs.declared.session.Opening.{Opening}
 use Rattle.vcdm_rules.specs.declared.session.Session.{Session}
-use Rattle.vcdm_rules.specs.declared.session.Outcome.{Outcome}
+use Rattle.vcdm_rules.specs.Outcome.{Outcome}
 
 -- ---- what a call leaves
 
@@ -102,12 +102,15 @@ unfoldable pub serial_after : ℕ → ℕ → ℕ
 serial_after code s = cond (pays code) (following s) s
 
 -- the next one after what a byte or a tick answered, the open command having its own: however a command closes, nothing gives its serial back
+abbrev pub serial_closed : Closing → ℕ → ℕ → ℕ
+serial_closed Nothing own s = s
+serial_closed (Answered answer) own s = s
+serial_closed Refused own s = s
+serial_closed Unknown own s = s
+
 abbrev pub serial_left : Reply → ℕ → ℕ → ℕ
 serial_left (NotDone why) own s = s
-serial_left (Done n Nothing) own s = s
-serial_left (Done n (Answered answer)) own s = s
-serial_left (Done n Refused) own s = s
-serial_left (Done n Unknown) own s = s
+serial_left (Ok effect) own s = serial_closed effect.closing own s
 
 -- ---- what is sent
 
@@ -241,11 +244,11 @@ closed_by a c Unknown = account_unknown a c.counts
 
 abbrev pub booked_by : Account → Asked → Reply → Account
 booked_by a c (NotDone why) = a
-booked_by a c (Done n closing) = closed_by a c closing
+booked_by a c (Ok effect) = closed_by a c effect.closing
 
 abbrev pub request_booked : Account → Asked → Reply → Account
 request_booked a c (NotDone why) = a
-request_booked a c (Done n closing) = account_opened a c.counts
+request_booked a c (Ok effect) = account_opened a c.counts
 
 -- ---- the session by value
 

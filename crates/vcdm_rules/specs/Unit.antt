@@ -10,8 +10,8 @@ use Rattle.vcdm_frame_rules.specs.Command.{sendable, command_frame}
 use Rattle.vcdm_frame_rules.specs.Answer.{read_answer}
 use Rattle.vcdm_frame_rules.specs.declared.command.Counts.{Counts}
 use Rattle.vcdm_frame_rules.specs.declared.answer.Answer.{Answer}
-use Rattle.vcdm_frame_rules.specs.declared.answer.AnswerRead.{AnswerRead}
-use Rattle.vcdm_frame_rules.specs.declared.answer.AnswerRead.TheVariants.{Read, Refused as NotRead}
+use Rattle.vcdm_frame_rules.specs.AnswerRead.{AnswerRead}
+use Rattle.vcdm_frame_rules.specs.AnswerRead.{Read, Refused as NotRead}
 use Rattle.vcdm_rules.specs.Account.{account_opened, account_answered, account_refused, account_unknown}
 use Rattle.vcdm_rules.specs.Session.{hand_over, pays, serial_for, more_quiet, finding, command}
 use Rattle.vcdm_rules.specs.Calls.{Call, request, byte, tick, Request, Own, Counted}

@@ -4,7 +4,6 @@ ghost use Rattle.vcdm_rules.specs.Session.{fresh_session};
 
 use crate::account::Account;
 use exchange_rules::Line;
-use refusals::Declined;
 use vcdm_frame_rules::{Answer, Counts, FIRST_SERIAL};
 
 // The command that is open, or was last: its code, the notes asked of each cassette (0 where none are), its serial (0 where it has none), and the length of its
@@ -37,18 +36,10 @@ pub enum Closing {
 }
 
 // What a call answers: why it was declined, or how many bytes it put at the room's start and which closing it made.
-#[derive(Clone, Copy)]
-pub enum Reply {
-    NotDone(Declined),
-    Done { put: usize, closing: Closing },
-}
+pub type Reply = refusals::Reply<Closing>;
 
 // What a byte or a tick leaves.
-#[derive(Clone, Copy)]
-pub struct Step {
-    pub line: Line,
-    pub reply: Reply,
-}
+pub type Step = exchange_rules::Step<Closing>;
 
 // What a request leaves.
 #[derive(Clone, Copy)]
@@ -70,11 +61,7 @@ pub struct Session {
 }
 
 // What a call by value leaves.
-#[derive(Clone, Copy)]
-pub struct Outcome {
-    pub session: Session,
-    pub reply: Reply,
-}
+pub type Outcome = refusals::Outcome<Session, Closing>;
 
 impl Session {
     // Waits, in milliseconds, and limits: those of the line, which every unit has. Document 01, "The dispenser session".

@@ -16,7 +16,7 @@ use Rattle.ledger.specs.Told.{naks, begun, turns, wait}
 use Rattle.ledger.specs.Calls.{run}
 use Rattle.ledger.proofs.Waiting.{some-long, begun-came, unbegun-first}
 use Rattle.ledger.proofs.Follows.{OpenIn, At}
-use Rattle.exchange_rules.specs.Limits.{quiet, first_wait, answer_wait, nak_wait, frame_wait}
+use Rattle.exchange_rules.specs.Limits.{first_wait, answer_wait, nak_wait, frame_wait}
 use Rattle.exchange_rules.specs.Machine.{discipline}
 use Rattle.exchange_rules.specs.Kept.{Stands}
 use Rattle.exchange_rules.specs.declared.line.Phase.{Phase}

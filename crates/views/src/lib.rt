@@ -26,10 +26,7 @@ pub struct View {
 fn waited(limit: u64, left: u64) -> u64
     ensures { result ≡ limit - left }
 {
-    if left < limit {
-        return limit - left;
-    }
-    0
+    limit.saturating_sub(left)
 }
 
 // Nothing is open.
@@ -63,6 +60,7 @@ fn busy(line: Line, phase: Phase, limit: u64, gathered: usize, span: usize) -> V
 }
 
 // How long an answer may take to start: after 06h, or after so many 15h of ours.
+#[tactic(auto, using(refusals::proofs::Rules::tests), unfolding(crate::specs::View::start_limit))]
 fn start_limit(naks: u32) -> u64
     ensures { result ≡ start_limit naks }
 {
@@ -97,26 +95,26 @@ fn answering(phase: Phase, limit: u64, left: u64, gathered: usize, length: usize
     }
 }
 
+#[tactic(auto, unfolding(crate::specs::View::dispenser_view))]
 pub fn dispenser(s: dispenser_rules::Session) -> View
     ensures { result ≡ dispenser_view s }
 {
     let line = s.line;
-    let asked = s.asked;
-    let phase = line.phase;
-    match phase {
+    let span = s.asked.span;
+    match line.phase {
         Phase::Idle => idle(line.quiet, line.left),
-        Phase::First => busy(line, Phase::First, Line::FIRST_BYTE, 0, asked.span),
-        Phase::Start => busy(line, Phase::Start, start_limit(line.naks), 0, asked.span),
-        Phase::Inside => busy(line, Phase::Inside, Line::FRAME, line.gathered, asked.span),
+        Phase::First => busy(line, Phase::First, Line::FIRST_BYTE, 0, span),
+        Phase::Start => busy(line, Phase::Start, start_limit(line.naks), 0, span),
+        Phase::Inside => busy(line, Phase::Inside, Line::FRAME, line.gathered, span),
     }
 }
 
+#[tactic(auto, unfolding(crate::specs::View::validator_view))]
 pub fn validator(s: validator_rules::Session) -> View
     ensures { result ≡ validator_view s }
 {
     let line = s.line;
-    let phase = line.phase;
-    match phase {
+    match line.phase {
         validator_rules::Phase::Idle => idle(validator_rules::Session::QUIET, line.left),
         validator_rules::Phase::Start => answering(
             Phase::Start,

@@ -2,7 +2,7 @@
 ghost use Rattle.std.specs.Prelude.{◌+◌, ◌≤◌};
 
 use crate::parts::part;
-use dispenser_rules::{KeptAt, KeptRequest, Requests, Standing};
+use dispenser_rules::{KeptRequest, Requests, Standing};
 use exchange_rules::{Notes, Sums};
 use text::{Said, byte, write};
 use validator_rules::Bills;
@@ -66,18 +66,16 @@ pub(crate) fn booked(
     let a = write(line, at, Said::alone(cassette));
     let b = paid(line, a, before, after);
     let c = unpaid(line, b, before, after);
-    if a == c {
-        return at;
-    }
-    c
+    if a == c { at } else { c }
 }
 
 // That a bill of a type was booked, if one was.
 fn bill(y: usize, before: Bills, after: Bills) -> Said {
     if before.0 == after.0 {
-        return Said::alone(Said::NOTHING);
+        Said::alone(Said::NOTHING)
+    } else {
+        Said::with(Said::BILL, [y as u64, 0, 0, 0])
     }
-    Said::with(Said::BILL, [y as u64, 0, 0, 0])
 }
 
 // Every type.
@@ -85,12 +83,8 @@ pub(crate) fn bills(line: &mut [u8], at: usize, before: [Bills; 24], after: [Bil
     ensures { result ≤ at + 6_240 }
 {
     let mut end = at;
-    let mut y: usize = 0;
-    while y < 24 {
-        let was = before[y];
-        let is = after[y];
+    for (y, (&was, &is)) in before.iter().zip(&after).enumerate() {
         end = write(line, end, bill(y, was, is));
-        y += 1;
     }
     end
 }
@@ -135,8 +129,8 @@ fn kept_at(line: &mut [u8], at: usize, all: Requests, i: usize) -> usize
     ensures { result ≤ at + 521 }
 {
     match dispenser_books::kept_at(all, i) {
-        KeptAt::Nothing => at,
-        KeptAt::Request(request) => kept(line, at, request),
+        None => at,
+        Some(request) => kept(line, at, request),
     }
 }
 
@@ -147,11 +141,9 @@ pub const REQUESTS_ROOM: usize = 16_673;
 pub fn requests(line: &mut [u8], all: Requests) -> usize
     ensures { result ≤ 16_672 }
 {
-    let mut end: usize = 0;
-    let mut i: usize = 0;
-    while i < Requests::MOST {
+    let mut end = 0;
+    for i in 0..Requests::MOST {
         end = kept_at(line, end, all, i);
-        i += 1;
     }
     end
 }

@@ -7,6 +7,7 @@ use dispenser_rules::Cassettes;
 use exchange_rules::Phase;
 use grading_rules::Desk;
 use recording::Record;
+use refusals::Done;
 use text::{Said, write};
 use validator_rules::Bills;
 use views::View;
@@ -34,10 +35,9 @@ pub fn look(desk: Desk) -> Looks {
     }
 }
 
-// What became of a byte that no session kept: it was none, or it was ignored or skipped.
+// What became of a byte that no session kept.
 #[derive(Clone, Copy)]
 pub enum Passing {
-    No,
     Ignored,
     Skipped,
 }
@@ -47,7 +47,7 @@ pub enum Passing {
 pub struct Told {
     pub end: usize,
     pub deeds: usize,
-    pub passing: Passing,
+    pub passing: Option<Passing>,
 }
 
 // A room of so many bytes is never filled by what is told of a record: nothing is cut.
@@ -57,10 +57,7 @@ pub const ROOM: usize = 24_576;
 fn sends(line: &mut [u8], at: usize, whose: usize, put: usize, room: &[u8]) -> usize
     ensures { result ≤ at + 520 + 3 * length room.now }
 {
-    if put == 0 {
-        return at;
-    }
-    if room.len() < put {
+    if put == 0 || room.len() < put {
         return at;
     }
     let a = part(line, at, whose, Said::alone(Said::SENDS));
@@ -121,8 +118,8 @@ fn by_dispenser(
     ensures { result ≤ 11_748 }
 {
     match reply {
-        dispenser_rules::Reply::NotDone(why) => write(line, 0, waits::refused(why, was.dispenser)),
-        dispenser_rules::Reply::Done { put, closing } => {
+        Err(why) => write(line, 0, waits::refused(why, was.dispenser)),
+        Ok(Done { put, closing }) => {
             let a = sends(line, 0, Said::DISPENSER, put, room);
             let b = closed(line, a, closing);
             let c = booked(line, b, was.cassettes, is.cassettes);
@@ -144,13 +141,13 @@ fn by_validator(
     ensures { result ≤ at + 9_085 }
 {
     match reply {
-        validator_rules::Reply::NotDone(why) => {
+        Err(why) => {
             if 0 < at {
                 return at;
             }
             write(line, at, waits::refused(why, was.validator))
         }
-        validator_rules::Reply::Done { put, closing } => {
+        Ok(Done { put, closing }) => {
             let a = sends(line, at, Said::VALIDATOR, put, room);
             let b = part(line, a, Said::VALIDATOR, replies::validator_closed(closing));
             let c = bills(line, b, was, is);
@@ -168,40 +165,39 @@ fn elapsed(x: Record) -> u32 {
 }
 
 // A byte that its line did not keep, by where the line stood before and after it.
-fn passing_in(before: View, after: View) -> Passing {
+fn passing_in(before: View, after: View) -> Option<Passing> {
     let is = after.phase;
     if !waits::is_same(before, after) {
-        return Passing::No;
+        return None;
     }
     match is {
-        Phase::Idle => Passing::Ignored,
-        Phase::Start => Passing::Skipped,
-        _ => Passing::No,
+        Phase::Idle => Some(Passing::Ignored),
+        Phase::Start => Some(Passing::Skipped),
+        _ => None,
     }
 }
 
-fn passed_over(x: Record, was: Looks, is: Looks) -> Passing {
+fn passed_over(x: Record, was: Looks, is: Looks) -> Option<Passing> {
     match x {
         Record::DispenserByte(_) => passing_in(was.dispenser, is.dispenser),
         Record::ValidatorByte(_) => passing_in(was.validator, is.validator),
-        _ => Passing::No,
+        _ => None,
     }
 }
 
 // What is said of a byte that was passed over.
 pub fn passed(passing: Passing) -> Said {
     match passing {
-        Passing::No => Said::alone(Said::NOTHING),
         Passing::Ignored => Said::alone(Said::IGNORED),
         Passing::Skipped => Said::alone(Said::SKIPPED),
     }
 }
 
 // What became of a byte: it was passed over, or so many of its answer have come.
-fn became(x: Record, passing: Passing, is: Looks) -> Said {
+fn became(x: Record, passing: Option<Passing>, is: Looks) -> Said {
     match passing {
-        Passing::No => came(x, is),
-        _ => passed(passing),
+        Some(passing) => passed(passing),
+        None => came(x, is),
     }
 }
 

@@ -41,12 +41,13 @@ fn begun(view: View) -> Said {
 // That an answer starts, after so many 15h of ours.
 fn starting(limit: u64, naks: u32) -> Said {
     if naks == 0 {
-        return Said::with(Said::START, [limit, 0, 0, 0]);
+        Said::with(Said::START, [limit, 0, 0, 0])
+    } else {
+        Said::with(
+            Said::START_AGAIN,
+            [limit, naks as u64, Line::NAKS as u64, 0],
+        )
     }
-    Said::with(
-        Said::START_AGAIN,
-        [limit, naks as u64, Line::NAKS as u64, 0],
-    )
 }
 
 // A wait of an open command that has ended. The milliseconds of a tick that ends it count up to its limit.
@@ -62,13 +63,11 @@ fn ended(view: View, ms: u32) -> Said {
 }
 
 fn waited(before: u64, ms: u32, limit: u64) -> u64 {
-    if limit <= before {
-        return limit;
+    if limit <= before || limit - before <= ms as u64 {
+        limit
+    } else {
+        before + ms as u64
     }
-    if limit - before <= ms as u64 {
-        return limit;
-    }
-    before + ms as u64
 }
 
 // The phase as a number, to compare two.
@@ -96,13 +95,11 @@ pub(crate) struct Waits {
 }
 
 pub(crate) fn turned(before: View, after: View, ms: u32) -> Waits {
-    if before.handed == after.handed {
-        if is_same(before, after) {
-            return Waits {
-                ended: Said::alone(Said::NOTHING),
-                begun: Said::alone(Said::NOTHING),
-            };
-        }
+    if before.handed == after.handed && is_same(before, after) {
+        return Waits {
+            ended: Said::alone(Said::NOTHING),
+            begun: Said::alone(Said::NOTHING),
+        };
     }
     Waits {
         ended: ended(before, ms),
@@ -112,14 +109,9 @@ pub(crate) fn turned(before: View, after: View, ms: u32) -> Waits {
 
 // Bytes of an answer that have come, if any, and of how many.
 pub(crate) fn gathered(view: View) -> Said {
-    if view.gathered == 0 {
-        return Said::alone(Said::NOTHING);
+    match (view.gathered, view.span) {
+        (0, _) => Said::alone(Said::NOTHING),
+        (n, 0) => Said::with(Said::GATHERED, [n as u64, 0, 0, 0]),
+        (n, all) => Said::with(Said::GATHERED_OF, [n as u64, all as u64, 0, 0]),
     }
-    if view.span == 0 {
-        return Said::with(Said::GATHERED, [view.gathered as u64, 0, 0, 0]);
-    }
-    Said::with(
-        Said::GATHERED_OF,
-        [view.gathered as u64, view.span as u64, 0, 0],
-    )
 }

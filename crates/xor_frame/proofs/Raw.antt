@@ -1,5 +1,6 @@
 -- The reader's values: a count that is no two digits is 100, and one under 20h is 300, which no field may hold, so that one test of the
 -- ranges tells whether all the fields fit. Assumes nothing.
+use Rattle.std.specs.Option.{unwrap_or}
 use Prim.Native.Nat.{ℕ, ◌+◌, ◌-◌, ◌≤◌, ◌<◌}
 use mathlib.Core.Path.{◌≡◌, refl, sym, ap, ap₂}
 use mathlib.Core.Bool.{Bool, true, false, cond, not, ◌&&◌, and-false}
@@ -12,16 +13,15 @@ use borrow.Author.Tests.{lt-leb, le-leb, le-ltb, lt-ltb}
 use Rattle.refusals.specs.Rules.{within, under, at_most, judged}
 use Rattle.refusals.proofs.Rules.{holds-true, by_cases, certain}
 use Rattle.numbers.specs.Decimal.{digits_only, number, read_digits}
-use Rattle.numbers.specs.declared.Number.{Number}
-use Rattle.numbers.specs.declared.Number.TheVariants.{Of, NoNumber}
+use Rattle.numbers.specs.Number.{Number}
+use Rattle.numbers.specs.Number.{Of, NoNumber}
 use Rattle.xor_frame.specs.Layout.{Field, count, byte, raised, free, size, all_fit, all_values, all_in_range}
 use Rattle.xor_frame.specs.Parts.{count_at, lowered, field_faults}
 
 -- ---- two bytes read as digits
 
 abbrev pub counted : Number → ℕ
-counted (Of n) = n
-counted NoNumber = 100
+counted n = unwrap_or n 100
 
 counted-by-test : (t : Bool) (m : ℕ) → counted (cond (not t) NoNumber (Of m)) ≡ cond t m 100
 counted-by-test true m = refl

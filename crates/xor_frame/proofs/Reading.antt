@@ -15,8 +15,8 @@ use Rattle.xor_frame.specs.Frame.{code_of, length_with, faults}
 use Rattle.xor_frame.specs.Parts.{outer_faults, field_faults}
 use Rattle.xor_frame.specs.Promises.{InOrder}
 use Rattle.xor_frame.specs.declared.frame.Fault.{Fault}
-use Rattle.xor_frame.specs.declared.frame.Verdict.{Verdict}
-use Rattle.xor_frame.specs.declared.frame.Verdict.TheVariants.{Good, Bad}
+use Rattle.xor_frame.specs.Verdict.{Verdict}
+use Rattle.xor_frame.specs.Verdict.{Good, Bad}
 use Rattle.xor_frame.proofs.Lengths.{length-known, length_some}
 
 pub in_order : InOrder

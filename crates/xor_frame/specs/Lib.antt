@@ -4,3 +4,4 @@ pub mod Frame
 pub mod Parts
 pub mod Promises
 pub mod Noise
+pub mod Verdict

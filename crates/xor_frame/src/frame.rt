@@ -5,7 +5,7 @@ ghost use Rattle.refusals.specs.Put.{over};
 ghost use Rattle.xor_frame.specs.Frame.{check, closed, fault_number};
 ghost use Rattle.xor_frame.specs.Parts.{two_digits, count_at, outer_faults, code_faults};
 
-use numbers::{Number, digit, read_digits};
+use numbers::{digit, read_digits};
 
 // The fixed bytes of a frame, by the makers' names: EOT opens a command and SOH an answer, STX stands before the code and ETX closes the
 // fields.
@@ -54,11 +54,9 @@ impl Fault {
 fn check_of(s: &[u8]) -> u8
     ensures { result ≡ check s.now }
 {
-    let mut sum: u8 = 0;
-    let mut at: usize = 0;
-    while at < s.len() {
-        sum = sum ^ s[at];
-        at += 1;
+    let mut sum = 0;
+    for &b in s {
+        sum ^= b;
     }
     sum
 }
@@ -69,67 +67,52 @@ pub fn lay(bytes: &[u8], room: &mut [u8]) -> usize
     ensures { (result ≡ length (closed bytes.now))
         × (room.new ≡ over (closed bytes.now) room.old) }
 {
-    let mut sum: u8 = 0;
-    let mut i: usize = 0;
-    while i < bytes.len() {
-        let b = bytes[i];
-        room[i] = b;
-        sum = sum ^ b;
-        i += 1;
-    }
-    room[i] = sum;
-    i + 1
-}
-
-// What the tests before the fields find.
-#[derive(Clone, Copy)]
-pub enum Verdict {
-    Good,
-    Bad(Fault),
+    let n = bytes.len();
+    room[..n].copy_from_slice(bytes);
+    room[n] = check_of(bytes);
+    n + 1
 }
 
 // Tests all but the fields of a frame of six bytes or more: the opening, the code, the length, the closing, the check. id is the model's,
 // and n the length of frames with that code, 0 where the code is not in the model's table.
-pub fn judge(s: &[u8], first: u8, id: u8, n: usize) -> Verdict
+pub fn judge(s: &[u8], first: u8, id: u8, n: usize) -> Result<(), Fault>
     requires { 6 ≤ length s.now }
-    ensures { result ≡ judged (outer_faults first id n s.now) Verdict.Bad Verdict.Good }
+    ensures { result ≡ judged (outer_faults first id n s.now) Err (Ok tt) }
 {
-    if both(s[0] == first, both(s[1] == id, s[2] == STX)) {
-        return judge_code(s, n);
+    if s[0] == first && s[1] == id && s[2] == STX {
+        judge_code(s, n)
+    } else {
+        Err(Fault::Opening)
     }
-    Verdict::Bad(Fault::Opening)
 }
 
 // The tests after the opening.
-fn judge_code(s: &[u8], n: usize) -> Verdict
+fn judge_code(s: &[u8], n: usize) -> Result<(), Fault>
     requires { 6 ≤ length s.now }
-    ensures { result ≡ judged (code_faults n s.now) Verdict.Bad Verdict.Good }
+    ensures { result ≡ judged (code_faults n s.now) Err (Ok tt) }
 {
     if n == 0 {
-        return Verdict::Bad(Fault::Code);
+        return Err(Fault::Code);
     }
     let end = s.len();
     if end != n {
-        return Verdict::Bad(Fault::Length);
+        return Err(Fault::Length);
     }
     if s[end - 2] != ETX {
-        return Verdict::Bad(Fault::Closing);
+        return Err(Fault::Closing);
     }
     let last = end - 1;
     if check_of(&s[..last]) != s[last] {
-        return Verdict::Bad(Fault::Check);
+        return Err(Fault::Check);
     }
-    Verdict::Good
+    Ok(())
 }
 
-// Do both hold?
+// Do both hold? Code writes `&&`. What may not change keeps this function: docs/PROMISES.md names it.
 pub fn both(a: bool, b: bool) -> bool
     ensures { result ≡ (a && b) }
 {
-    if a {
-        return b;
-    }
-    false
+    a && b
 }
 
 // A count's two digits.
@@ -149,7 +132,7 @@ pub fn two_digits(n: u32) -> Digits
     }
 }
 
-// What two bytes count that are not both digits: more than any field may hold.
+// What two bytes count that are not both digits: more than any field may hold. A number and no Option, as the rule `count_at` says, so that one test of ranges refuses both.
 const NO_COUNT: u32 = 100;
 
 // The count whose two digits stand at a place.
@@ -157,9 +140,5 @@ pub fn count(s: &[u8], at: usize) -> u32
     requires { at + 2 ≤ length s.now }
     ensures { result ≡ count_at at s.now }
 {
-    let end = at + 2;
-    match read_digits(&s[at..end]) {
-        Number::Of(n) => n,
-        Number::NoNumber => NO_COUNT,
-    }
+    read_digits(&s[at..at + 2]).unwrap_or(NO_COUNT)
 }

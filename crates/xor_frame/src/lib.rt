@@ -4,4 +4,4 @@
 
 mod frame;
 
-pub use frame::{Digits, EOT, ETX, Fault, SOH, STX, Verdict, both, count, judge, lay, two_digits};
+pub use frame::{Digits, EOT, ETX, Fault, SOH, STX, both, count, judge, lay, two_digits};

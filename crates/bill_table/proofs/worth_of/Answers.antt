@@ -27,12 +27,12 @@ pub returns-then-word-lt-PLACES : goal.returns-then-word-lt-PLACES
 unfolding worth
 returns-then-word-lt-PLACES c = simp (lt-ltb _ _ c.if-word-lt-PLACES.true, c.ten_to.ensures)
 
-pub overflow_mul-whole-2 : goal.overflow_mul-whole-2
-overflow_mul-whole-2 c =
+pub overflow_mul-whole-else-word-lt-PLACES : goal.overflow_mul-whole-else-word-lt-PLACES
+overflow_mul-whole-else-word-lt-PLACES c =
     let w = c.args.word in
     let h : w.first ≤ 255_000_000_000 = search rules in
     record { fits = omega (arith, all_most c.args.count w.first c.requires.count_bound h) }
 
-pub returns : goal.returns
+pub returns-else-word-lt-PLACES : goal.returns-else-word-lt-PLACES
 unfolding worth
-returns c = simp (le-ltb _ _ c.if-word-lt-PLACES.false)
+returns-else-word-lt-PLACES c = simp (le-ltb _ _ c.if-word-lt-PLACES.false)

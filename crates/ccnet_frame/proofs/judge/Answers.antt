@@ -10,4 +10,4 @@ pub returns : goal.returns
 unfolding judge_frame
 returns c =
     let s = c.args.s.now in
-    c.judge_sized.ensures ∙ sized-by (is_sized s) s _ (ap (λ b. eqb b (length s)) c.byte_at-length_byte.ensures)
+    c.judge_sized.ensures ∙ sized-by (is_sized s) s _ (ap (λ b. eqb b (length s)) c.byte_at.ensures)

@@ -1,5 +1,5 @@
 -- `ccnet_wide::data_of` meets its contract: the part behind the true length and before the last two bytes, or an empty one. Assumes nothing.
-use mathlib.Core.Path.{refl, sym, ap, ◌∙◌}
+use mathlib.Core.Path.{sym, ap, ◌∙◌}
 use Prim.Native.Nat.{ℕ, ◌+◌}
 use Rattle.ccnet_wide.proofs.Frames.{good-long, good-lead-most, good-part}
 use native.Mathlib.Omega.{arith}
@@ -8,34 +8,31 @@ use Rattle.ccnet_wide.proofs.data_of.Goals as goal
 pub overflow_add-start : goal.overflow_add-start
 overflow_add-start c =
     let args = c.args in
-    let good = sym c.judge.ensures ∙ c.in-Good.is in
+    let good = sym c.judge.ensures ∙ c.in-Ok.is in
     omega (arith, c.lead_size-start.ensures, good-lead-most args.form args.s.now _ _ good)
 
-pub overflow_sub-end : goal.overflow_sub-end
-overflow_sub-end c =
+pub overflow_sub-result : goal.overflow_sub-result
+overflow_sub-result c =
     let args = c.args in
-    let good = sym c.judge.ensures ∙ c.in-Good.is in
+    let good = sym c.judge.ensures ∙ c.in-Ok.is in
     omega (arith, good-long args.form args.s.now _ _ good)
 
 pub slice_bounds-result-count : goal.slice_bounds-result-count
 slice_bounds-result-count c =
     let args = c.args in
-    let good = sym c.judge.ensures ∙ c.in-Good.is in
+    let good = sym c.judge.ensures ∙ c.in-Ok.is in
     omega (arith, good-long args.form args.s.now _ _ good, c.lead_size-start.ensures, good-lead-most args.form args.s.now _ _ good)
 
 pub slice_bounds-result-start : goal.slice_bounds-result-start
 slice_bounds-result-start c =
     let args = c.args in
-    let good = sym c.judge.ensures ∙ c.in-Good.is in
+    let good = sym c.judge.ensures ∙ c.in-Ok.is in
     omega (arith, good-long args.form args.s.now _ _ good, c.lead_size-start.ensures, good-lead-most args.form args.s.now _ _ good)
 
-pub returns-in-Good : goal.returns-in-Good
-returns-in-Good c =
+pub returns-in-Ok : goal.returns-in-Ok
+returns-in-Ok c =
     let args = c.args in
-    let good = sym c.judge.ensures ∙ c.in-Good.is in
+    let good = sym c.judge.ensures ∙ c.in-Ok.is in
     let s = args.s in
     let size = c.lead_size-start.ensures in
     rw good (record { bytes = good-part args.form s.now _ _ good _ size; place = ap (λ (k : ℕ). (s.ref_ptr.0, 5 + k + s.ref_ptr.1)) size })
-
-pub returns-in-Refused : goal.returns-in-Refused
-returns-in-Refused c = rw (sym c.judge.ensures ∙ c.in-Refused.is) (record { bytes = refl; place = refl })

@@ -7,30 +7,30 @@ use Rattle.grading_step.proofs.heard.Goals as goal
 
 pub returns-then-put-gt1 : goal.returns-then-put-gt1
 unfolding entered
-returns-then-put-gt1 c = λ a q n. rw (c.in-Done.is, c.in-Nothing.is, lt-ltb _ _ c.if-put-gt1.true)
+returns-then-put-gt1 c = λ a q n. rw (c.in-Ok.is, c.in-Nothing.is, lt-ltb _ _ c.if-put-gt1.true)
 
 pub returns-then-again : goal.returns-then-again
 unfolding entered
-returns-then-again c = λ a q n. rw (c.in-Done.is, c.in-Nothing.is, le-ltb _ _ c.if-put-gt1.false)
+returns-then-again c = λ a q n. rw (c.in-Ok.is, c.in-Nothing.is, le-ltb _ _ c.if-put-gt1.false)
 
-pub returns-in-NotDone : goal.returns-in-NotDone
+pub returns-in-Err : goal.returns-in-Err
 unfolding entered
-returns-in-NotDone c = λ a q n. rw c.in-NotDone.is
+returns-in-Err c = λ a q n. rw c.in-Err.is
 
 pub returns-else-again : goal.returns-else-again
 unfolding entered
 returns-else-again c =
-    let short = subst (ShortBy _) c.in-Nothing.is (subst Short c.in-Done.is (c.requires c.if-again.false)) in
-    λ a q n. rw (c.in-Done.is, c.in-Nothing.is, le-ltb _ _ short)
+    let short = subst (ShortBy _) c.in-Nothing.is (subst Short c.in-Ok.is (c.requires c.if-again.false)) in
+    λ a q n. rw (c.in-Ok.is, c.in-Nothing.is, le-ltb _ _ short)
 
 pub returns-in-Answered : goal.returns-in-Answered
 unfolding entered
-returns-in-Answered c = λ a q n. rw (c.in-Done.is, c.in-Answered.is)
+returns-in-Answered c = λ a q n. rw (c.in-Ok.is, c.in-Answered.is)
 
 pub returns-in-Refused : goal.returns-in-Refused
 unfolding entered
-returns-in-Refused c = λ a q n. rw (c.in-Done.is, c.in-Refused.is)
+returns-in-Refused c = λ a q n. rw (c.in-Ok.is, c.in-Refused.is)
 
 pub returns-in-Unknown : goal.returns-in-Unknown
 unfolding entered
-returns-in-Unknown c = λ a q n. rw (c.in-Done.is, c.in-Unknown.is)
+returns-in-Unknown c = λ a q n. rw (c.in-Ok.is, c.in-Unknown.is)

@@ -1,11 +1,11 @@
 -- `numbers::put_digits` meets its contract. The invariant: the first i digits still to be put, and the room from i on, are the digits
 -- of n. Assumes nothing.
-use mathlib.Core.Path.{◌≡◌, refl, ◌∙◌}
-use mathlib.Core.List.{List, ◌++◌, append-nil}
+use mathlib.Core.Path.{◌≡◌, ◌∙◌}
+use mathlib.Core.List.{List, ◌++◌}
 use Prim.Native.Nat.{ℕ, suc, ◌-◌, ◌/◌, ◌<◌}
 use native.Mathlib.Nat.{le_refl}
 use lib.ListN.{length, drop, set, length-set}
-use lib.Seq.{drop-length, drop-cons, append_snoc, lt-length-set, get_or-set_same, drop-set-lt}
+use lib.Seq.{drop-cons, append_snoc, lt-length-set, get_or-set_same, drop-set-lt}
 use Rattle.numbers.specs.Decimal.{digit_of, digits}
 use Rattle.numbers.proofs.Decimal.{digits-none, digits_last}
 use native.Mathlib.Omega.{arith}
@@ -23,9 +23,6 @@ put_one j rest room b h e =
       digits_last,
       append_snoc,
     )
-
-pub loop-i-init : goal.loop-i-init
-loop-i-init c = (refl, le_refl _, rw (drop-length, append-nil))
 
 pub loop-i-preserved : goal.loop-i-preserved
 loop-i-preserved c =

@@ -10,6 +10,3 @@ use Rattle.numbers.proofs.put_digits.Given as goal
 abbrev pub invariant-loop-i : goal.invariant-loop-i
 invariant-loop-i l =
     (length l.room ≡ length l.initial.room) × (l.i ≤ length l.room) × (digits l.i l.rest ++ drop l.i l.room ≡ digits (length l.initial.room) l.n)
-
-abbrev pub decreases-loop-i : goal.decreases-loop-i
-decreases-loop-i l = l.i

@@ -1,8 +1,7 @@
 -- `numbers::write_decimal` meets its contract: the digits fill the first part of the room. Assumes nothing.
 use mathlib.Core.Path.{◌≡◌, sym, ◌∙◌}
 use mathlib.Core.List.{List, ◌++◌}
-use Prim.Native.Nat.{ℕ, ◌-◌, ◌≤◌}
-use native.Mathlib.Nat.{sub-zero}
+use Prim.Native.Nat.{ℕ, ◌≤◌}
 use native.Mathlib.Omega.{arith}
 use lib.ListN.{length, take, drop}
 use lib.Seq.{length-take-le}
@@ -18,10 +17,10 @@ returns-then-room-k c =
     (omega (arith, length-decimal c.args.n, c.places_of-k.ensures))
 
 -- the first part of the room, filled with the digits
-filled : (n k : ℕ) (room part : List ℕ) → k ≡ width n → k ≤ length room → part ≡ digits (length (take (k - 0) room)) n
-    → part ++ drop (k - 0) room ≡ over (decimal n) room
+filled : (n k : ℕ) (room part : List ℕ) → k ≡ width n → k ≤ length room → part ≡ digits (length (take k room)) n
+    → part ++ drop k room ≡ over (decimal n) room
 unfolding over decimal
-filled n k room part e h p = rw (p, sub-zero, length-take-le k room h, e, length_digits)
+filled n k room part e h p = rw (p, length-take-le k room h, e, length_digits)
 
 pub returns : goal.returns
 returns c =

@@ -1,14 +1,17 @@
--- `numbers::write_groups` meets its contract. The invariant: the room's first i bytes, and the groups of the rest laid from there on,
--- are the groups of n laid from the start. Assumes nothing.
-use mathlib.Core.Path.{◌≡◌, refl, sym, ap, ◌∙◌}
-use mathlib.Core.List.{[], ◌∷◌}
-use Prim.Native.Nat.{ℕ, ◌+◌, ◌/◌, ◌%◌, ◌≤◌, ◌<◌}
+-- `numbers::write_groups` meets its contract. The invariant: the bytes put so far, and the groups of the rest after them, are the groups
+-- of n. Assumes nothing.
+use mathlib.Core.Path.{◌≡◌, sym, ap, ◌∙◌}
+use mathlib.Core.List.{List, [], ◌∷◌, ◌++◌}
+use Prim.Native.Nat.{ℕ, ◌+◌, ◌-◌, ◌/◌, ◌%◌, ◌≤◌, ◌<◌}
 use native.Mathlib.Nat.{mod-eq_of_lt}
-use native.Mathlib.Numerals.{add-one}
-use lib.ListN.{length, length-set}
+use lib.ListN.{length, length-append, length-drop, take, set}
+use lib.Seq.{append_snoc, length-take-le}
 use Rattle.numbers.specs.Seven.{groups}
+use Rattle.std.proofs.lemmas.List.{take_all, take_more_set}
 use Rattle.numbers.proofs.Groups.{groups-small, groups-large, groups-some, length-groups}
-use Rattle.refusals.proofs.Writing.{writing-refused, writing-laid, over-one, over_last}
+use Rattle.refusals.proofs.Writing.{writing-refused, writing-laid, over-closed}
+use Rattle.refusals.specs.Rules.{under, at_most}
+use Rattle.refusals.proofs.Rules.{certain}
 use native.Mathlib.Omega.{arith}
 use Rattle.numbers.proofs.write_groups.Goals as goal
 
@@ -24,34 +27,50 @@ returns-then-room-k c =
     writing-refused (groups c.args.n) c.args.room.now
     (omega (arith, length-groups c.args.n, c.places_of-k.ensures))
 
-pub loop-rest-init : goal.loop-rest-init
-loop-rest-init c = (refl, omega (arith, length-groups c.args.n, c.places_of-k.ensures), omega arith, refl)
+pub slice_bounds-b-items-count : goal.slice_bounds-b-items-count
+slice_bounds-b-items-count c = omega (arith, groups-some c.args.n, length-groups c.args.n, c.places_of-k.ensures)
 
-pub bounds-room-i : goal.bounds-room-i
-bounds-room-i c = omega (arith, groups-some c.loop-rest.rest)
+-- one byte more is put
+put_one : (i b : ℕ) (left : List ℕ) (items bytes : List ℕ) → i < length items → bytes ≡ b ∷ left
+    → take (i + 1) (set items i b) ++ left ≡ take i items ++ bytes
+put_one i b left items bytes h e = rw (take_more_set items i b h, append_snoc, e)
 
-pub loop-rest-preserved : goal.loop-rest-preserved
-loop-rest-preserved c =
-    let turn = c.loop-rest in
-    let g = more-groups turn.rest c.loop-rest-test.true in
-    let within : turn.i < length turn.room = omega (arith, groups-some turn.rest) in (
-      simp length-set turn.invariant.0,
-      turn.invariant.1,
+-- the rest has one group where it is small, and more where it is not
+small : (n : ℕ) → length (groups n) ≤ 1 → n < 128
+small n h = certain (under n 128) (λ k. omega (arith, ap length (groups-large n (omega arith)), groups-some (n / 128)))
+
+large : (n : ℕ) → 2 ≤ length (groups n) → 128 ≤ n
+large n h = certain (at_most 128 n) (λ k. omega (arith, ap length (groups-small n (omega arith))))
+
+pub loop-b-preserved : goal.loop-b-preserved
+loop-b-preserved c =
+    let turn = c.loop-b in
+    let k = c.places_of-k.ensures ∙ sym (length-groups c.args.n) in
+    let room = length-take-le (c.places_of-k.result - 1) c.args.room.now (omega arith) in
+    let h : turn.b-index < length turn.b-items = omega arith in
+    let g = more-groups turn.rest (large turn.rest (omega arith)) in (
       omega (arith, ap length g),
-      rw (add-one turn.i) (over-one _ _ _ turn.room turn.i g within ∙ turn.invariant.3),
+      put_one turn.b-index _ _ _ _ h g ∙ turn.invariant.1,
     )
 
-pub bounds-room-i-2 : goal.bounds-room-i-2
-bounds-room-i-2 c = omega (arith, groups-some c.loop-rest.rest)
+pub overflow_sub-room : goal.overflow_sub-room
+overflow_sub-room c = omega (arith, groups-some c.args.n, length-groups c.args.n, c.places_of-k.ensures)
 
-pub shape_of-room : goal.shape_of-room
-shape_of-room c = simp length-set c.loop-rest.invariant.0
+pub bounds-room-k : goal.bounds-room-k
+bounds-room-k c =
+    let some = groups-some c.args.n in
+    let k = c.places_of-k.ensures ∙ sym (length-groups c.args.n) in
+    let room = length-take-le (c.places_of-k.result - 1) c.args.room.now (omega arith) in
+    simp (length-append, length-drop) (omega arith)
 
 pub returns : goal.returns
 returns c =
-    let end = c.loop-rest in
+    let end = c.loop-b in
     let args = c.args in
-    let g = last-group end.rest c.loop-rest-test.false in
-    let within : end.i < length end.room = omega (arith, groups-some end.rest) in
-    writing-laid (groups args.n) args.room.now _ _ (omega arith) (c.places_of-k.ensures ∙ sym (length-groups args.n))
-    (over_last _ _ end.room end.i g within ∙ end.invariant.3)
+    let some = groups-some args.n in
+    let k = c.places_of-k.ensures ∙ sym (length-groups args.n) in
+    let room = length-take-le (c.places_of-k.result - 1) args.room.now (omega arith) in
+    let all : length end.b-items ≤ end.b-index = omega arith in
+    let g = last-group end.rest (small end.rest (omega arith)) in
+    let put : end.b-items ++ (end.rest % 128 ∷ []) ≡ groups args.n = rw (← g, ← take_all end.b-index end.b-items all) end.invariant.1 in
+    writing-laid (groups args.n) args.room.now _ _ (omega arith) k (over-closed _ _ _ _ args.room.now (omega arith) (omega arith) put)

@@ -1,7 +1,7 @@
 -- `parted::parting` meets its contract. The invariant: from here on the two part as they do from the start on, and no record is empty. Assumes nothing.
 use mathlib.Core.Path.{◌≡◌, sym, ◌∙◌}
 use mathlib.Core.List.{List}
-use Prim.Native.Nat.{ℕ, ◌-◌}
+use Prim.Native.Nat.{ℕ}
 use native.Mathlib.Numerals.{add-one}
 use Rattle.parted.specs.Parting.{turn_at}
 use Rattle.parted.specs.declared.Turn.{Turn}

@@ -3,8 +3,8 @@ use mathlib.Core.Path.{◌≡◌, refl, sym, ap, ◌∙◌, subst}
 use Prim.Native.Nat.{ℕ}
 use mathlib.Core.List.{List}
 use denote.Ref.{Bor}
-use Rattle.parted.specs.declared.Next.{Next}
-use Rattle.parted.specs.declared.Next.TheVariants.{Rest}
+use Rattle.parted.specs.Next.{Next}
+use Rattle.parted.specs.Next.{Rest}
 use Rattle.parted.specs.declared.Parted.{Parted}
 use Rattle.parted.specs.Remainder.{IsHandedBack}
 use Rattle.parted.proofs.Turns.{parted-within}
@@ -21,13 +21,13 @@ slice_bounds-result-start c =
     let here = c.args in
     omega (arith, (parted-within here.student.now here.reference.now).student, ap (λ p. p.at) c.parting-parted.ensures)
 
-pub slice_bounds-result-count-in-Reference : goal.slice_bounds-result-count-in-Reference
-slice_bounds-result-count-in-Reference c =
+pub slice_bounds-result-count-in-Ok-Reference : goal.slice_bounds-result-count-in-Ok-Reference
+slice_bounds-result-count-in-Ok-Reference c =
     let here = c.args in
     omega (arith, (parted-within here.student.now here.reference.now).reference, ap (λ p. p.at) c.parting-parted.ensures)
 
-pub slice_bounds-result-start-in-Reference : goal.slice_bounds-result-start-in-Reference
-slice_bounds-result-start-in-Reference c =
+pub slice_bounds-result-start-in-Ok-Reference : goal.slice_bounds-result-start-in-Ok-Reference
+slice_bounds-result-start-in-Ok-Reference c =
     let here = c.args in
     omega (arith, (parted-within here.student.now here.reference.now).reference, ap (λ p. p.at) c.parting-parted.ensures)
 
@@ -36,17 +36,17 @@ handed-as : (s t r : Bor (List ℕ)) (p q : Parted) (next : Next) → p ≡ q �
 handed-as s t r p q next e f h =
     subst (λ (x : Parted). IsHandedBack x.next x.at s t r) e (subst (λ (n : Next). IsHandedBack n p.at s t r) (sym f) h)
 
-pub returns-in-Student : goal.returns-in-Student
-returns-in-Student c =
+pub returns-in-Ok-Student : goal.returns-in-Ok-Student
+returns-in-Ok-Student c =
     let here = c.args in
-    handed-as here.student here.reference _ _ _ _ c.parting-parted.ensures (c.in-Rest.is ∙ ap Rest c.in-Student.is) (record { bytes = refl; place = refl })
+    handed-as here.student here.reference _ _ _ _ c.parting-parted.ensures (c.in-Ok-Student.is ∙ ap Rest (rw c.in-Ok-Student.is at c.in-Ok-Student.field-0-is)) (record { bytes = refl; place = refl })
 
-pub returns-in-Reference : goal.returns-in-Reference
-returns-in-Reference c =
+pub returns-in-Ok-Reference : goal.returns-in-Ok-Reference
+returns-in-Ok-Reference c =
     let here = c.args in
-    handed-as here.student here.reference _ _ _ _ c.parting-parted.ensures (c.in-Rest.is ∙ ap Rest c.in-Reference.is) (record { bytes = refl; place = refl })
+    handed-as here.student here.reference _ _ _ _ c.parting-parted.ensures (c.in-Ok-Reference.is ∙ ap Rest (rw c.in-Ok-Reference.is at c.in-Ok-Reference.field-0-is)) (record { bytes = refl; place = refl })
 
-pub returns-in-Malformed : goal.returns-in-Malformed
-returns-in-Malformed c =
+pub returns-in-Err : goal.returns-in-Err
+returns-in-Err c =
     let here = c.args in
-    handed-as here.student here.reference _ _ _ _ c.parting-parted.ensures c.in-Malformed.is (record { bytes = refl; place = refl })
+    handed-as here.student here.reference _ _ _ _ c.parting-parted.ensures c.in-Err.is (record { bytes = refl; place = refl })

@@ -8,7 +8,7 @@ use Rattle.payout.proofs.find.Goals as goal
 pub fewest-requires : goal.fewest-requires
 fewest-requires c =
     let a = c.args in
-    let h = (in_range a.values.now a.stocks.now a.amount).tells.shown (sym c.is_in_range.ensures ∙ c.if-is_in_range.true) in
+    let h = (in_range a.values.now a.stocks.now a.amount).tells.shown (sym c.is_in_range.ensures ∙ c.if-not-is_in_range.false) in
     let f = few-enough a.values.now a.stocks.now a.amount h in
     (f.0, f.1, omega arith)
 
@@ -17,27 +17,27 @@ returns-then-values-eq2 c =
     let a = c.args in
     let h =
     (in_range a.values.now a.stocks.now a.amount).tells.shown
-    (sym c.is_in_range.ensures ∙ c.if-is_in_range.true)
+    (sym c.is_in_range.ensures ∙ c.if-not-is_in_range.false)
     in
     rw c.plan_of.ensures
     (right-two a.values.now a.stocks.now a.amount h _ _ _ c.if-values-eq2.true c.fewest.ensures refl refl)
 
-pub fewest-requires-then-is_in_range : goal.fewest-requires-then-is_in_range
-fewest-requires-then-is_in_range c =
+pub fewest-requires-else-values-eq2 : goal.fewest-requires-else-values-eq2
+fewest-requires-else-values-eq2 c =
     let a = c.args in
-    let h = (in_range a.values.now a.stocks.now a.amount).tells.shown (sym c.is_in_range.ensures ∙ c.if-is_in_range.true) in
+    let h = (in_range a.values.now a.stocks.now a.amount).tells.shown (sym c.is_in_range.ensures ∙ c.if-not-is_in_range.false) in
     let f = few-enough a.values.now a.stocks.now a.amount h in
     (f.0, f.1, omega arith)
 
-pub returns-then-is_in_range : goal.returns-then-is_in_range
-returns-then-is_in_range c =
+pub returns-else-values-eq2 : goal.returns-else-values-eq2
+returns-else-values-eq2 c =
     let a = c.args in
     let h =
     (in_range a.values.now a.stocks.now a.amount).tells.shown
-    (sym c.is_in_range.ensures ∙ c.if-is_in_range.true)
+    (sym c.is_in_range.ensures ∙ c.if-not-is_in_range.false)
     in
     let e = four-else a.values.now a.stocks.now a.amount h c.if-values-eq2.false in
-    rw c.plan_of-then-is_in_range.ensures (right-four a.values.now a.stocks.now a.amount h _ _ _ e c.fewest-then-is_in_range.ensures refl refl)
+    rw c.plan_of-else-values-eq2.ensures (right-four a.values.now a.stocks.now a.amount h _ _ _ e c.fewest-else-values-eq2.ensures refl refl)
 
-pub returns : goal.returns
-returns c = right-refused _ _ _ (sym c.is_in_range.ensures ∙ c.if-is_in_range.false)
+pub returns-then-not-is_in_range : goal.returns-then-not-is_in_range
+returns-then-not-is_in_range c = right-refused _ _ _ (sym c.is_in_range.ensures ∙ c.if-not-is_in_range.true)

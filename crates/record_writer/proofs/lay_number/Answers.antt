@@ -12,23 +12,23 @@ pub overflow_add-result : goal.overflow_add-result
 overflow_add-result c =
     let here = c.args in
     let w = laid-number here.n here.at here.room.now _ _ c.requires c.write_groups.ensures in
-    let put = sym w.0 ∙ c.in-Bytes.is in
-    let size : length (groups here.n) ≡ c.in-Bytes.k = cc in
+    let put = sym w.0 ∙ c.in-Ok.is in
+    let size : length (groups here.n) ≡ c.in-Ok.k = cc in
     let fits = c.requires in
     search rules
 
-pub returns-in-Bytes : goal.returns-in-Bytes
-returns-in-Bytes c =
+pub returns-in-Ok : goal.returns-in-Ok
+returns-in-Ok c =
     let here = c.args in
     let w = laid-number here.n here.at here.room.now _ _ c.requires c.write_groups.ensures in
-    let put = sym w.0 ∙ c.in-Bytes.is in
-    let size : c.in-Bytes.k ≡ length (groups here.n) = cc in
+    let put = sym w.0 ∙ c.in-Ok.is in
+    let size : c.in-Ok.k ≡ length (groups here.n) = cc in
     record { place = ap (λ (i : ℕ). here.at + i) size; bytes = w.1 }
 
-pub returns-in-Refused : goal.returns-in-Refused
-returns-in-Refused c =
+pub returns-in-Err : goal.returns-in-Err
+returns-in-Err c =
     let here = c.args in
     let w = laid-number here.n here.at here.room.now _ _ c.requires c.write_groups.ensures in
-    let k = sym w.0 ∙ c.in-Refused.is in
+    let k = sym w.0 ∙ c.in-Err.is in
     let z : ◌≡◌ {A = ℕ} 0 1 = cc in
     absurd (omega arith)

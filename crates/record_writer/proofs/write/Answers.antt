@@ -10,7 +10,7 @@ returns-then-room-length_of c = let here = c.args in no_room here.x here.room.no
 pub returns-then-is_taken : goal.returns-then-is_taken
 returns-then-is_taken c =
     let here = c.args in
-    is-written here.x here.room.now (omega (arith, c.if-room-length_of.false, c.length_of.ensures)) _ _ (sym c.is_taken.ensures ∙ c.if-is_taken.true) c.lay-n.ensures.place c.lay-n.ensures.bytes
+    is-written here.x here.room.now (omega (arith, c.if-room-length_of.false, c.length_of.ensures)) _ _ (sym c.is_taken.ensures ∙ c.if-is_taken.true) c.lay.ensures.place c.lay.ensures.bytes
 
 pub returns : goal.returns
 returns c =

@@ -1,12 +1,8 @@
 -- `recording::judge` meets its contract. The invariant: the reader goes on from i as the whole recording is judged. Assumes nothing.
 use mathlib.Core.Path.{◌≡◌}
-use Prim.Native.Nat.{◌-◌, ◌≤◌}
-use lib.ListN.{length, drop}
+use lib.ListN.{drop}
 use Rattle.recording.specs.Reading.{taking_from, verdict_of, verdict}
 use Rattle.recording.proofs.judge.Given as goal
 
 abbrev pub invariant-loop-i : goal.invariant-loop-i
-invariant-loop-i l = (l.i ≤ length l.recording) × (verdict_of (taking_from l.reader l.i (drop l.i l.recording)) ≡ verdict l.recording)
-
-abbrev pub decreases-loop-i : goal.decreases-loop-i
-decreases-loop-i l = length l.recording - l.i
+invariant-loop-i l = verdict_of (taking_from l.reader l.i (drop l.i l.recording)) ≡ verdict l.recording

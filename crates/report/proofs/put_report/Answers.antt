@@ -3,10 +3,10 @@ use Rattle.report.specs.Report.{report_text}
 use Rattle.report_lines.proofs.Lines.{one-added}
 use Rattle.report.proofs.put_report.Goals as goal
 
-pub returns-in-Good : goal.returns-in-Good
+pub returns-in-Ok : goal.returns-in-Ok
 unfolding report_text
-returns-in-Good c = rw c.in-Good.is c.put_good.ensures
+returns-in-Ok c = rw c.in-Ok.is c.put_good.ensures
 
-pub returns-in-Bad : goal.returns-in-Bad
+pub returns-in-Err : goal.returns-in-Err
 unfolding report_text
-returns-in-Bad c = let e = c.put_bad.ensures in rw c.in-Bad.is (record { adds = one-added _ e.adds; upper_bound = e.upper_bound })
+returns-in-Err c = let e = c.put_bad.ensures in rw c.in-Err.is (record { adds = one-added _ e.adds; upper_bound = e.upper_bound })

@@ -1,7 +1,6 @@
 -- `report::put_types` meets its contract. The invariant: the lines of the first y types are added. Assumes nothing.
-use mathlib.Core.Path.{◌≡◌}
-use Prim.Native.Nat.{◌+◌, ◌*◌, ◌-◌, ◌≤◌}
-use lib.ListN.{length, take}
+use Prim.Native.Nat.{◌+◌, ◌*◌, ◌≤◌}
+use lib.ListN.{take}
 use Rattle.report_lines.specs.Scaffolding.{Adds}
 use Rattle.report_lines.specs.Lines.{lines}
 use Rattle.report.specs.Report.{type_lines}
@@ -9,7 +8,4 @@ use Rattle.report.proofs.put_types.Given as goal
 
 abbrev pub invariant-loop-y : goal.invariant-loop-y
 invariant-loop-y l =
-    (l.y ≤ 24) × (length l.bills ≡ 24) × (l.end ≤ l.at + 56 * l.y) × Adds l.initial.text l.at (lines (type_lines l.table 0 (take l.y l.bills))) l.text l.end
-
-abbrev pub decreases-loop-y : goal.decreases-loop-y
-decreases-loop-y l = 24 - l.y
+    (l.end ≤ l.at + 56 * l.y) × Adds l.initial.text l.at (lines (type_lines l.table 0 (take l.y l.n-items))) l.text l.end

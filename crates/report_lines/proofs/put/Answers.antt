@@ -1,23 +1,21 @@
--- `report_lines::put` meets its contract. The invariant: i bytes are added. Assumes nothing.
-use mathlib.Core.Path.{refl, sym}
-use mathlib.Core.List.{append-nil}
-use native.Mathlib.Nat.{add-zero}
-use lib.ListN.{length-set}
-use Rattle.report_lines.proofs.Adding.{add-byte, add-all}
-use borrow.Author.Rules.{rules}
+-- `report_lines::put` meets its contract. Assumes nothing.
+use mathlib.Core.Path.{refl, ap, ◌∙◌}
+use mathlib.Core.List.{List, ◌++◌}
+use Prim.Native.Nat.{ℕ}
+use lib.ListN.{length, take}
+use borrow.Rule.Slice.PartMut.{same_len_mid}
+use Rattle.std.proofs.lemmas.Slice.{take-put_mid}
 use native.Mathlib.Omega.{arith}
 use Rattle.report_lines.proofs.put.Goals as goal
 
-pub loop-i-init : goal.loop-i-init
-loop-i-init c = (search rules, refl, rw add-zero (sym (append-nil _)))
-
-pub loop-i-preserved : goal.loop-i-preserved
-loop-i-preserved c =
-    let turn = c.loop-i in (
-      search rules,
-      simp length-set turn.invariant.1,
-      add-byte _ turn.text _ _ turn.i (search rules) c.loop-i-test.true turn.invariant.2,
-    )
-
 pub returns : goal.returns
-returns c = let end = c.loop-i in add-all _ _ _ _ end.i (omega arith) end.invariant.1 end.invariant.2
+returns c =
+    let at = c.args.at in
+    let text = c.args.text.now in
+    let copied = c.copy_from_slice.ensures in
+    let l = ap length copied.after in
+    record {
+      ends = refl;
+      text = take-put_mid at _ text _ _ (omega arith) (omega arith) ∙ ap (λ (s : List ℕ). take at text ++ s) copied.after;
+      size = same_len_mid at _ text _ copied.len;
+    }

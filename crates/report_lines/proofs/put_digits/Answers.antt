@@ -9,25 +9,25 @@ pub slice_bounds-put-end : goal.slice_bounds-put-end
 slice_bounds-put-end c =
     let args = c.args in
     let w = c.write_decimal in
-    let d = digits-put args.n _ w.new.room c.ranges.n.fits refl w.result _ w.ensures c.in-Bytes.is in
+    let d = digits-put args.n _ w.new.room c.ranges.n.fits refl w.result _ w.ensures c.in-Ok.is in
     omega (arith, d.many, twenty args.n c.ranges.n.fits)
 
 pub put-requires : goal.put-requires
 put-requires c =
     let args = c.args in
     let w = c.write_decimal in
-    let d = digits-put args.n _ w.new.room c.ranges.n.fits refl w.result _ w.ensures c.in-Bytes.is in
+    let d = digits-put args.n _ w.new.room c.ranges.n.fits refl w.result _ w.ensures c.in-Ok.is in
     simp length-take (omega (arith, d.many, twenty args.n c.ranges.n.fits))
 
-pub returns-in-Bytes : goal.returns-in-Bytes
-returns-in-Bytes c =
+pub returns-in-Ok : goal.returns-in-Ok
+returns-in-Ok c =
     let args = c.args in
     let w = c.write_decimal in
-    let d = digits-put args.n _ w.new.room c.ranges.n.fits refl w.result _ w.ensures c.in-Bytes.is in
+    let d = digits-put args.n _ w.new.room c.ranges.n.fits refl w.result _ w.ensures c.in-Ok.is in
     digits-added d c.put.ensures
 
-pub returns-in-Refused : goal.returns-in-Refused
-returns-in-Refused c =
+pub returns-in-Err : goal.returns-in-Err
+returns-in-Err c =
     let args = c.args in
     let w = c.write_decimal in
-    absurd (digits-fit args.n _ w.new.room c.ranges.n.fits refl w.result _ w.ensures c.in-Refused.is)
+    absurd (digits-fit args.n _ w.new.room c.ranges.n.fits refl w.result _ w.ensures c.in-Err.is)

@@ -2,8 +2,8 @@
 use native.Mathlib.Omega.{arith}
 use Rattle.report_lines.proofs.put_name.Goals as goal
 
-pub returns-in-NoneYet : goal.returns-in-NoneYet
-returns-in-NoneYet c = let e = c.put.ensures in rw c.in-NoneYet.is (record { adds = e; upper_bound = omega (arith, e.ends) })
+pub returns-in-None : goal.returns-in-None
+returns-in-None c = let e = c.put.ensures in rw c.in-None.is (record { adds = e; upper_bound = omega (arith, e.ends) })
 
-pub returns-in-Of : goal.returns-in-Of
-returns-in-Of c = rw c.in-Of.is c.put_class.ensures
+pub returns-in-Some : goal.returns-in-Some
+returns-in-Some c = rw c.in-Some.is c.put_class.ensures

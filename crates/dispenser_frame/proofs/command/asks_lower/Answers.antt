@@ -7,5 +7,5 @@ use Rattle.dispenser_frame.proofs.command.asks_lower.Goals as goal
 pub returns-then-code-eq-PAY_LOWER : goal.returns-then-code-eq-PAY_LOWER
 returns-then-code-eq-PAY_LOWER c = sym (lower-asked _ ∙ simp (eq-eqb _ _ c.if-code-eq-PAY_LOWER.true))
 
-pub returns : goal.returns
-returns c = sym (lower-asked _ ∙ simp (ne_eqb _ _ c.if-code-eq-PAY_LOWER.false))
+pub returns-else-code-eq-PAY_LOWER : goal.returns-else-code-eq-PAY_LOWER
+returns-else-code-eq-PAY_LOWER c = sym (lower-asked _ ∙ simp (ne_eqb _ _ c.if-code-eq-PAY_LOWER.false))

@@ -7,5 +7,5 @@ use Rattle.dispenser_frame.proofs.command.asks_upper.Goals as goal
 pub returns-then-code-eq-PAY_UPPER : goal.returns-then-code-eq-PAY_UPPER
 returns-then-code-eq-PAY_UPPER c = sym (upper-asked _ ∙ simp (eq-eqb _ _ c.if-code-eq-PAY_UPPER.true))
 
-pub returns : goal.returns
-returns c = sym (upper-asked _ ∙ simp (ne_eqb _ _ c.if-code-eq-PAY_UPPER.false))
+pub returns-else-code-eq-PAY_UPPER : goal.returns-else-code-eq-PAY_UPPER
+returns-else-code-eq-PAY_UPPER c = sym (upper-asked _ ∙ simp (ne_eqb _ _ c.if-code-eq-PAY_UPPER.false))

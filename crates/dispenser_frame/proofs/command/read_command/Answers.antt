@@ -1,4 +1,6 @@
 -- `dispenser_frame::command::read_command` meets its contract: what `judge` finds, and then what the fields give. Assumes nothing.
+use Rattle.std.specs.Prelude.{◌≡◌, Err}
+use Rattle.std.proofs.lemmas.Result.{err_from_is_err_and}
 use Prim.Native.Nat.{◌≤◌}
 use mathlib.Core.Path.{sym, ◌∙◌}
 use lib.ListN.{length}
@@ -7,7 +9,7 @@ use Rattle.dispenser_frame_rules.specs.Table.{model_id, known, command_fields}
 use Rattle.xor_frame.specs.Frame.{eot, code_of, faults}
 use Rattle.dispenser_frame_rules.specs.Command.{command_in, read_command}
 use Rattle.dispenser_frame_rules.specs.Parts.{counts_read}
-use Rattle.dispenser_frame_rules.specs.declared.command.CommandRead.TheVariants.{Refused}
+use Rattle.dispenser_frame_rules.specs.CommandRead.{Refused}
 use Rattle.xor_frame.proofs.Reading.{reading, good-frame}
 use native.Mathlib.Omega.{arith}
 use borrow.Author.Rules.{rules}
@@ -19,17 +21,19 @@ returns-then-s-lt6 c = simp (lt-ltb _ _ c.if-s-lt6.true)
 
 pub read_counts-requires : goal.read_counts-requires
 read_counts-requires c =
-    let g = good-frame eot model_id known command_fields c.args.s.now (rw (← c.command_length.ensures) (sym c.judge.ensures ∙ c.in-Good.is)) in
+    let g = good-frame eot model_id known command_fields c.args.s.now (rw (← c.command_length.ensures) (sym c.judge.ensures ∙ c.in_ok-judge.was)) in
     omega (arith, g.1)
 
-pub returns-in-Bad : goal.returns-in-Bad
+pub returns-in_err-judge : goal.returns-in_err-judge
 unfolding read_command
-returns-in-Bad c =
+returns-in_err-judge c =
     let h : 6 ≤ length c.args.s.now = search rules in
-    sym (reading Refused eot model_id known command_fields c.args.s.now (command_in (code_of c.args.s.now) c.args.s.now) h ∙ simp (← c.command_length.ensures, ← c.judge.ensures, c.in-Bad.is))
+    let p = err_from_is_err_and c.from_residual.result c.from_residual.ensures.1 in
+    let was : c.judge.result ≡ Err c.in_err-judge.field-0.0 = c.in_err-judge.was in
+    rw (p.1, p.2) (sym (reading Refused eot model_id known command_fields c.args.s.now (command_in (code_of c.args.s.now) c.args.s.now) h ∙ simp (← c.command_length.ensures, ← c.judge.ensures, was)))
 
-pub returns-in-Good : goal.returns-in-Good
+pub returns : goal.returns
 unfolding read_command counts_read
-returns-in-Good c =
+returns c =
     let h : 6 ≤ length c.args.s.now = search rules in
-    c.read_counts.ensures ∙ sym (reading Refused eot model_id known command_fields c.args.s.now (command_in (code_of c.args.s.now) c.args.s.now) h ∙ simp (← c.command_length.ensures, ← c.judge.ensures, c.in-Good.is))
+    c.read_counts.ensures ∙ sym (reading Refused eot model_id known command_fields c.args.s.now (command_in (code_of c.args.s.now) c.args.s.now) h ∙ simp (← c.command_length.ensures, ← c.judge.ensures, c.in_ok-judge.was))

@@ -7,12 +7,12 @@ use Rattle.grading.proofs.desk.ended.Goals as goal
 
 pub overflow_cast-at : goal.overflow_cast-at
 overflow_cast-at c =
-    record { fits = omega (arith, ended-start c.args.replay.reader (sym c.ended.ensures ∙ c.in-Bad.is), c.requires.start_most) }
+    record { fits = omega (arith, ended-start c.args.replay.reader (sym c.ended.ensures ∙ c.in-Err.is), c.requires.start_most) }
 
-pub returns-in-Good : goal.returns-in-Good
+pub returns-in-Ok : goal.returns-in-Ok
 unfolding ended_replay
-returns-in-Good c = rw (sym c.ended.ensures ∙ c.in-Good.is)
+returns-in-Ok c = rw (sym c.ended.ensures ∙ c.in-Ok.is)
 
-pub returns-in-Bad : goal.returns-in-Bad
+pub returns-in-Err : goal.returns-in-Err
 unfolding ended_replay
-returns-in-Bad c = rw (sym c.ended.ensures ∙ c.in-Bad.is) c.bad.ensures
+returns-in-Err c = rw (sym c.ended.ensures ∙ c.in-Err.is) c.bad.ensures

@@ -11,7 +11,7 @@ pub loop-i-preserved : goal.loop-i-preserved
 loop-i-preserved c =
     let turn = c.loop-i in (
       search rules,
-      after_one turn.reader turn.p _ turn.i c.loop-i-test.true c.taken-step.result c.taken-step.ensures ∙ turn.invariant.1,
+      after_one turn.reader turn.p _ turn.i c.loop-i-test.true c.taken.result c.taken.ensures ∙ turn.invariant.1,
     )
 
 pub returns : goal.returns

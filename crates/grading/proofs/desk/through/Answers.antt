@@ -2,7 +2,7 @@
 -- than bytes fed. Assumes nothing.
 use mathlib.Core.Path.{◌≡◌, sym, ap, ◌∙◌}
 use mathlib.Core.Bool.{true≢false}
-use Rattle.recording.specs.declared.taking.NextRecord.TheVariants.{Bad}
+use Rattle.recording.specs.NextRecord.{Bad}
 use Rattle.grading_rules.specs.Feeding.{broken_at}
 use Rattle.grading_step.specs.Scaffolding.{shelf, joined}
 use Rattle.grading.proofs.Loops.{further, gives, breaks, holds_as, other-fault, uncut, ends_as, begun-inside, begins, eq-le, counts, joins, in-slot, no_slot, shelved, no-bill}
@@ -10,7 +10,7 @@ use native.Mathlib.Omega.{arith}
 use Rattle.dispenser_rules.specs.Requests.{slots_after}
 use Rattle.validator_rules.specs.Bills.{booked_by}
 use Rattle.grading.proofs.desk.through.Goals as goal
-use Rattle.grading.proofs.desk.through.Goals.{then-slot-lt-MOST, else-slot-lt-MOST, then-bill-lt-TYPES, else-bill-lt-TYPES}
+use Rattle.grading.proofs.desk.through.Goals.{then-slot-lt-MOST, else-slot-lt-MOST, then-is_some, else-is_some}
 
 pub loop-i-init : goal.loop-i-init
 loop-i-init c = (
@@ -50,7 +50,7 @@ returns-in-Cut c =
     let found = c.record_in-found.result in
     let told = c.record_in-found.ensures in
     c.rejoined.ensures
-    ∙ holds_as _ _ turn.i turn.cut _ h inv.1 inv.6 found told d (c.in-Bad.is ∙ ap Bad c.in-Cut.is) inv.7 c.reader_at.ensures c.reader_after-reader.ensures
+    ∙ holds_as _ _ turn.i turn.cut _ h inv.1 inv.6 found told d (c.in-Err.is ∙ ap Bad c.in-Cut.is) inv.7 c.reader_at.ensures c.reader_after-reader.ensures
 
 pub returns-in_default : goal.returns-in_default
 returns-in_default c =
@@ -62,7 +62,7 @@ returns-in_default c =
     let told = c.record_in-found.ensures in
     c.broken.ensures
     ∙ ap (broken_at _) c.start_of.ensures
-    ∙ breaks _ _ turn.i turn.cut _ h inv.1 inv.6 found told d (other-fault _ (uncut _ c.in_default.not-Cut)) c.in-Bad.is inv.7
+    ∙ breaks _ _ turn.i turn.cut _ h inv.1 inv.6 found told d (other-fault _ (uncut _ c.in_default.not-Cut)) c.in-Err.is inv.7
 
 pub step-moved-requires : goal.step-moved-requires
 step-moved-requires c =
@@ -77,7 +77,7 @@ overflow_add-i c =
     let d = joined turn.run (shelf turn.books turn.slots) turn.bills turn.store turn.store255 turn.table in
     let found = c.record_in-found.result in
     let told = c.record_in-found.ensures in
-    let f = further _ _ turn.i turn.cut _ h inv.1 inv.6 found told d _ _ c.in-Whole.is in
+    let f = further _ _ turn.i turn.cut _ h inv.1 inv.6 found told d _ _ c.in-Ok.is in
     omega (arith, f.1, inv.1)
 
 pub loop-i-smaller : goal.loop-i-smaller
@@ -88,7 +88,7 @@ loop-i-smaller c =
     let d = joined turn.run (shelf turn.books turn.slots) turn.bills turn.store turn.store255 turn.table in
     let found = c.record_in-found.result in
     let told = c.record_in-found.ensures in
-    let f = further _ _ turn.i turn.cut _ h inv.1 inv.6 found told d _ _ c.in-Whole.is in
+    let f = further _ _ turn.i turn.cut _ h inv.1 inv.6 found told d _ _ c.in-Ok.is in
     omega (arith, f.0, f.1)
 
 pub loop-i-preserved : goal.loop-i-preserved
@@ -101,19 +101,19 @@ loop-i-preserved c =
     let told = c.record_in-found.ensures in
     let moved = c.step-moved.result in
     let g = c.step-moved.ensures (shelf turn.books turn.slots) turn.bills in
-    let x = c.in-Whole.x in
-    let size = c.in-Whole.size in
-    let is = c.in-Whole.is in
+    let x = c.in-Ok.x in
+    let size = c.in-Ok.size in
+    let is = c.in-Ok.is in
     let noted = c.written-noted.result in
     let kept : c.if-slot-lt-MOST.slots ≡ slots_after turn.slots noted =
     elim c.if-slot-lt-MOST.branch [
       | then-slot-lt-MOST w ↦ w.slots-is ∙ in-slot turn.slots noted w.if-slot-lt-MOST.true
       | else-slot-lt-MOST w ↦ w.slots-is ∙ no_slot turn.slots noted w.if-slot-lt-MOST.false
     ] in
-    let credited : c.if-bill-lt-TYPES.bills ≡ booked_by turn.bills moved.bill =
-    elim c.if-bill-lt-TYPES.branch [
-      | then-bill-lt-TYPES w ↦ w.bills-is ∙ w.booked-counts.ensures
-      | else-bill-lt-TYPES w ↦ w.bills-is ∙ no-bill turn.bills moved.bill w.if-bill-lt-TYPES.false
+    let credited : c.if-is_some.bills ≡ booked_by turn.bills moved.bill =
+    elim c.if-is_some.branch [
+      | then-is_some w ↦ w.bills-is ∙ w.booked-counts.ensures
+      | else-is_some w ↦ w.bills-is ∙ no-bill turn.bills moved.bill (sym c.is_some.ensures ∙ w.if-is_some.false)
     ] in
     let on = shelved turn.books c.booked-entered.result turn.slots c.if-slot-lt-MOST.slots moved.run.asked moved.run.payer.handed moved.entry noted c.booked-entered.ensures c.written-noted.ensures kept in
     let f = further _ _ turn.i turn.cut _ h inv.1 inv.6 found told d x size is in

@@ -9,18 +9,18 @@ returns-then-is_full c =
     let size = c.length_of in
     was-full args.written args.records args.declined args.x args.out.now size.result size.ensures (sym c.is_full.ensures ∙ c.if-is_full.true)
 
-pub returns-in-Bytes : goal.returns-in-Bytes
-returns-in-Bytes c =
+pub returns-in-Ok : goal.returns-in-Ok
+returns-in-Ok c =
     let args = c.args in
     let size = c.length_of in
     let put = c.write in
     was-written args.written args.records args.declined args.x args.out.now size.result size.ensures
-    (sym c.is_full.ensures ∙ c.if-is_full.false) put.result _ _ c.in-Bytes.is put.ensures
+    (sym c.is_full.ensures ∙ c.if-is_full.false) put.result _ _ c.in-Ok.is put.ensures
 
-pub returns-in-Refused : goal.returns-in-Refused
-returns-in-Refused c =
+pub returns-in-Err : goal.returns-in-Err
+returns-in-Err c =
     let args = c.args in
     let size = c.length_of in
     let put = c.write in
     was-written args.written args.records args.declined args.x args.out.now size.result size.ensures
-    (sym c.is_full.ensures ∙ c.if-is_full.false) put.result _ _ c.in-Refused.is put.ensures
+    (sym c.is_full.ensures ∙ c.if-is_full.false) put.result _ _ c.in-Err.is put.ensures

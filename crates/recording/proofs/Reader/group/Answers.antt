@@ -2,14 +2,14 @@
 use Rattle.recording.specs.Reading.{grouped}
 use Rattle.recording.proofs.Reader.group.Goals as goal
 
-pub returns-in-More : goal.returns-in-More
+pub returns-in-Some-More : goal.returns-in-Some-More
 unfolding grouped
-returns-in-More c = simp (← c.next_group.ensures, c.in-More.is, c.more.ensures, c.grown.ensures)
+returns-in-Some-More c = simp (← c.next_group.ensures, c.in-Some-More.is, c.in-Some-More.field-0-is, c.more.ensures, c.grown.ensures)
 
-pub returns-in-Last : goal.returns-in-Last
+pub returns-in-Some-Last : goal.returns-in-Some-Last
 unfolding grouped
-returns-in-Last c = simp (← c.next_group.ensures, c.in-Last.is, c.number.ensures)
+returns-in-Some-Last c = simp (← c.next_group.ensures, c.in-Some-Last.is, c.in-Some-Last.field-0-is, c.number.ensures)
 
-pub returns-in-Wrong : goal.returns-in-Wrong
+pub returns-in-None : goal.returns-in-None
 unfolding grouped
-returns-in-Wrong c = simp (← c.next_group.ensures, c.in-Wrong.is, c.refused.ensures)
+returns-in-None c = simp (← c.next_group.ensures, c.in-None.is, c.refused.ensures)

@@ -3,8 +3,13 @@ use Rattle.validator_rules.proofs.Reading.{read-bad, read-good}
 use native.Mathlib.Omega.{arith}
 use Rattle.validator.proofs.session.read.Goals as goal
 
-pub returns-then-part-eq0 : goal.returns-then-part-eq0
-returns-then-part-eq0 c = read-bad c.args.frame.now c.body-part.result.now c.body-part.ensures.bytes c.args.code (omega (arith, c.if-part-eq0.true))
+pub returns-then-is_empty : goal.returns-then-is_empty
+returns-then-is_empty c =
+    let h = c.if-is_empty.ensures in
+    read-bad c.args.frame.now c.body-part.result.now c.body-part.ensures.bytes c.args.code (grind arith)
 
 pub returns : goal.returns
-returns c = read-good c.args.frame.now c.body-part.result.now c.body-part.ensures.bytes c.args.code c.class_to.result c.class_to.ensures (omega (arith, c.if-part-eq0.false))
+returns c =
+    let h = c.if-is_empty.ensures in
+    let k = c.if-is_empty.false in
+    read-good c.args.frame.now c.body-part.result.now c.body-part.ensures.bytes c.args.code c.class_to.result c.class_to.ensures (grind arith)

@@ -1,11 +1,13 @@
 -- `vcdm::session::hand_over` meets its contract. Assumes nothing.
+use Rattle.std.specs.Prelude.{◌≡◌, refl, Ok, Err}
+use Rattle.std.specs.Result.{result_unwrap_or}
+use Rattle.refusals.specs.Put.{Put}
+use Rattle.vcdm_rules.specs.Session.{bytes_put}
 use Rattle.vcdm_rules.specs.Session.{hand_over}
 use Rattle.vcdm.proofs.session.hand_over.Goals as goal
 
-pub returns-in-Bytes : goal.returns-in-Bytes
+pub returns : goal.returns
 unfolding hand_over
-returns-in-Bytes c = simp (← c.write_command.ensures, c.in-Bytes.is)
-
-pub returns-in-Refused : goal.returns-in-Refused
-unfolding hand_over
-returns-in-Refused c = simp (← c.write_command.ensures, c.in-Refused.is)
+returns c =
+    let same : (put : Put) → bytes_put put ≡ result_unwrap_or put 0 = elim [ Ok n ↦ refl | Err why ↦ refl ] in
+    simp (← c.write_command.ensures, c.unwrap_or.ensures, ← same c.write_command.result)

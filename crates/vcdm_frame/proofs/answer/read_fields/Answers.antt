@@ -6,5 +6,5 @@ use Rattle.vcdm_frame.proofs.answer.read_fields.Goals as goal
 pub returns-then-fits : goal.returns-then-fits
 returns-then-fits c = sym (fields_read_lem _ _ c.requires.fact ∙ simp (← c.answer_in-answer.ensures, ← c.fits.ensures, c.if-fits.true))
 
-pub returns : goal.returns
-returns c = sym (fields_read_lem _ _ c.requires.fact ∙ simp (← c.answer_in-answer.ensures, ← c.fits.ensures, c.if-fits.false))
+pub returns-else-fits : goal.returns-else-fits
+returns-else-fits c = sym (fields_read_lem _ _ c.requires.fact ∙ simp (← c.answer_in-answer.ensures, ← c.fits.ensures, c.if-fits.false))

@@ -24,6 +24,6 @@ returns-then-fits c =
     simp (← c.code_of.ensures, ← c.answer_length-n.ensures, le-ltb _ _ c.if-room-n.false, ← c.fits.ensures, c.if-fits.true)
     (c.lay_answer.ensures ∙ answer-laid _ _ ((answer_fits c.args.answer).tells.shown (sym c.fits.ensures ∙ c.if-fits.true)))
 
-pub returns : goal.returns
+pub returns-else-fits : goal.returns-else-fits
 unfolding write_answer answer_refusals
-returns c = simp (← c.code_of.ensures, ← c.answer_length-n.ensures, le-ltb _ _ c.if-room-n.false, ← c.fits.ensures, c.if-fits.false)
+returns-else-fits c = simp (← c.code_of.ensures, ← c.answer_length-n.ensures, le-ltb _ _ c.if-room-n.false, ← c.fits.ensures, c.if-fits.false)

@@ -28,6 +28,6 @@ returns-then-command_fits c =
     simp (length_some known command_fields _ (λ e. c.if-long-eq0.false (c.command_length-long.ensures ∙ e)), ← c.command_length-long.ensures, le-ltb _ _ c.if-room-long.false, ← c.command_fits.ensures, c.if-command_fits.true)
     (c.lay_command.ensures ∙ command-laid _ _ _ _ ((command_fits c.args.code c.args.n c.args.serial).tells.shown (sym c.command_fits.ensures ∙ c.if-command_fits.true)))
 
-pub returns : goal.returns
+pub returns-else-command_fits : goal.returns-else-command_fits
 unfolding write_command command_refusals
-returns c = simp (length_some known command_fields _ (λ e. c.if-long-eq0.false (c.command_length-long.ensures ∙ e)), ← c.command_length-long.ensures, le-ltb _ _ c.if-room-long.false, ← c.command_fits.ensures, c.if-command_fits.false)
+returns-else-command_fits c = simp (length_some known command_fields _ (λ e. c.if-long-eq0.false (c.command_length-long.ensures ∙ e)), ← c.command_length-long.ensures, le-ltb _ _ c.if-room-long.false, ← c.command_fits.ensures, c.if-command_fits.false)

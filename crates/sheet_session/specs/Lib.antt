@@ -1,0 +1,2 @@
+-- What a call of a line does.
+pub mod Made

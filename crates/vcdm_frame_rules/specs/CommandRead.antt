@@ -1,0 +1,14 @@
+-- What is found, as the library's type, with the words of the rules for its cases.
+use Rattle.std.specs.Prelude.{ℕ, Result, Ok, Err}
+use Rattle.xor_frame.specs.declared.frame.Fault.{Fault}
+use Rattle.vcdm_frame_rules.specs.declared.command.Counts.{Counts}
+use Rattle.vcdm_frame_rules.specs.declared.command.Command.{Command}
+
+abbrev pub CommandRead : Type 0
+CommandRead = Result Command Fault
+
+abbrev pub Read : ℕ → Counts → ℕ → CommandRead
+Read code counts serial = Ok (record { code = code; counts = counts; serial = serial })
+
+pattern abbrev pub Refused : Fault → CommandRead
+Refused why = Err why
