@@ -133,7 +133,7 @@ pub fn write_ack(room: &mut [u8]) -> Put
     write_answer(VALIDATOR, &[0x00], room)
 }
 
-// Writes NAK at the start of the room.
+// Writes NAK at the start of the room. It stays beside `write_ack`: docs/PROMISES.md names both.
 pub fn write_nak(room: &mut [u8]) -> Put
     ensures { written result room.new ≡ writing (frame 0x03 (0xFF ∷ [])) room.old }
 {

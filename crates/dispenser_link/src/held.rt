@@ -48,7 +48,7 @@ pub struct Held {
     pub store: [u8; 21],
 }
 
-// What a call answers: 0, or the number with which it was declined; the bytes that it put; 0, or 1, 2, 3 for answered, refused, unknown; the answer's error byte, or 0.
+// What a call answers, in numbers since C has no enum with values: 0, or the number with which it was declined; the bytes that it put; 0, or 1, 2, 3 for answered, refused, unknown; the answer's error byte, or 0.
 #[repr(C)]
 #[derive(Clone, Copy)]
 pub struct HeldReply {

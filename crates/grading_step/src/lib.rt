@@ -78,7 +78,7 @@ pub struct Books {
     pub errors: LastErrors,
 }
 
-// What a record books: nothing, what a request answered, or what a byte or a tick did.
+// What a record books: nothing, what a request answered, or what a byte or a tick did. Three meanings, of which none is a failure: no Option.
 #[derive(Clone, Copy)]
 pub enum Entry {
     Nothing,

@@ -33,7 +33,7 @@ pub struct Parted {
     pub next: Result<Whose, Malformed>,
 }
 
-// What two recordings show where a record is due in both.
+// What two recordings show where a record is due in both. No Result: neither going on nor ending is a failure.
 #[derive(Clone, Copy)]
 pub(crate) enum Turn {
     // The same record, of so many bytes.

@@ -71,7 +71,7 @@ pub enum Refusal {
 }
 
 impl Refusal {
-    // Document 01's number.
+    // Document 01's number. A method and no `From`: `why.number()` says more at a call than `u8::from(why)`, here and at the other enums of refusals.
     pub fn number(self) -> u8
         ensures { result ≡ refusal_number self }
     {

@@ -101,7 +101,7 @@ pub fn put_sums(name: &[u8], s: Sums, text: &mut [u8], at: usize) -> usize
     put(b"\n", text, b)
 }
 
-// Adds the name of a class.
+// Adds the name of a class. No `Display`: the report is laid into a lent room, with no heap and no writer.
 fn put_class(class: ErrorClass, text: &mut [u8], at: usize) -> usize
     requires { at + 14 ≤ length text.old }
     ensures adds { Adds text.old at (bytes_of (class_name class)) text.new result }

@@ -6,7 +6,7 @@ use std::io::Write;
 use text::{Said, byte};
 use words::Passing;
 
-// What the line at hand is of. It is written as far as it is known.
+// What the line at hand is of. It is written as far as it is known. Four meanings, of which none is a failure: no Option.
 #[derive(Clone, Copy)]
 pub enum Run {
     // Of nothing: the line has ended.

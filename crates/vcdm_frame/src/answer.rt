@@ -257,7 +257,7 @@ fn lay_counted(
     )
 }
 
-// 55h: the last command's code, and then as 52h.
+// 55h: the last command's code, and then as 52h. Two functions, since an array one byte longer is another type, and there is no heap to lay it in.
 #[tactic(auto, using(xor_frame::proofs::Check::laid_by), unfolding(vcdm_frame_rules::specs::Parts::last_frame))]
 fn lay_last(
     last: u8,
