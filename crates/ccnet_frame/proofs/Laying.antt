@@ -4,11 +4,16 @@ use mathlib.Core.Path.{◌≡◌, sym, ap, ◌∙◌}
 use mathlib.Core.List.{List, [], ◌∷◌, ◌++◌, append_assoc, append-nil}
 use native.Mathlib.Numerals.{add-one}
 use native.Mathlib.Omega.{arith}
-use lib.ListN.{length, take, drop, set, length-append}
+use lib.ListN.{length, take, drop, set, length-append, take-append-drop}
 use lib.Seq.{drop-cons, drop-drop, drop-length, take-length, append_snoc, set-append_seam, take-append_seam, drop-append_seam}
 use Rattle.refusals.specs.Put.{over}
 use Rattle.ccnet_check.specs.Check.{check}
 use Rattle.ccnet_frame.specs.Frame.{closed}
+
+-- with no byte left to lay, all are laid
+pub over-end : (s room all : List ℕ) (i : ℕ) → i ≡ length s → take i room ++ over (drop i s) (drop i room) ≡ all → room ≡ all
+unfolding over
+over-end s room all i e h = rw (e, drop-length s, take-append-drop) at h
 
 -- bytes laid, and then more of them in what is left of the room
 pub over-more : (s t room first rest : List ℕ) → first ≡ over s room

@@ -59,9 +59,9 @@ fn put(bytes: &[u8], c: u16, room: &mut [u8]) -> u16
     ensures { (result ≡ check_from c bytes.now)
         × (room.new ≡ over bytes.now room.old) }
 {
-    room[..bytes.len()].copy_from_slice(bytes);
     let mut sum = c;
-    for &b in bytes {
+    for (i, &b) in bytes.iter().enumerate() {
+        room[i] = b;
         sum = with_byte(sum, b);
     }
     sum

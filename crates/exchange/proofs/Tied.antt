@@ -1,4 +1,9 @@
 -- No contract of this crate leaves a choice: two outcomes that it allows for the same arguments coincide. Assumes nothing.
+use Prim.Native.Nat.{ℕ}
+use mathlib.Core.Path.{ap₂}
+use mathlib.Core.List.{List}
+use denote.RattleType.{RattleType}
+use denote.Param.Laws.{Laws}
 use Rattle.refusals.proofs.Tied.{Tied, tied}
 use Rattle.exchange.proofs.line.is_open.Kinds as is_open
 use Rattle.exchange.proofs.line.is_open.Reads as is-open-reads
@@ -30,6 +35,10 @@ use Rattle.exchange.proofs.sums.closed_unknown.Kinds as sums-closed-unknown
 use Rattle.exchange.proofs.sums.closed_unknown.Reads as sums-closed-unknown-reads
 use Rattle.exchange.proofs.sums.rejected.Kinds as sums-rejected
 use Rattle.exchange.proofs.sums.rejected.Reads as sums-rejected-reads
+use Rattle.exchange.proofs.step.done.Kinds as done
+use Rattle.exchange.proofs.step.done.Reads as done-reads
+use Rattle.exchange.proofs.step.not_done.Kinds as not-done
+use Rattle.exchange.proofs.step.not_done.Reads as not-done-reads
 use Rattle.exchange.proofs.step.keep.Kinds as keep
 use Rattle.exchange.proofs.step.keep.Reads as keep-reads
 use Rattle.exchange.proofs.step.send.Kinds as send
@@ -118,5 +127,14 @@ keep-tied = tied keep.ps keep.r keep-reads.Post (λ κs x e. e.0.now) _ (λ κs 
 pub send-tied : Tied send.ps send.r send-reads.Post (λ κs x e. e.0.now)
 send-tied = tied send.ps send.r send-reads.Post (λ κs x e. e.0.now) _ (λ κs a x e p. p)
 
-pub gathered-tied : Tied gathered.ps gathered.r gathered-reads.Post (λ κs x e. x.now)
-gathered-tied = tied gathered.ps gathered.r gathered-reads.Post (λ κs x e. x.now) _ (λ κs a x e p. p)
+pub gathered-tied : Tied gathered.ps gathered.r gathered-reads.Post {A = (ℕ × ℕ) × List ℕ} (λ κs x e. (x.ref_ptr, x.now))
+gathered-tied =
+    tied gathered.ps gathered.r gathered-reads.Post {A = (ℕ × ℕ) × List ℕ} (λ κs x e. (x.ref_ptr, x.now)) _
+    (λ κs a x e p. ap₂ (λ (place : ℕ × ℕ) (bytes : List ℕ). (place, bytes)) p.1 p.0)
+
+-- whatever the closing's type
+pub done-tied : (t : RattleType) (l : Laws t) → Tied (done.ps t l) (done.r t l) (done-reads.Post t l) (λ κs x e. x)
+done-tied t l = tied (done.ps t l) (done.r t l) (done-reads.Post t l) (λ κs x e. x) _ (λ κs a x e p. p)
+
+pub not-done-tied : (t : RattleType) (l : Laws t) → Tied (not-done.ps t l) (not-done.r t l) (not-done-reads.Post t l) (λ κs x e. x)
+not-done-tied t l = tied (not-done.ps t l) (not-done.r t l) (not-done-reads.Post t l) (λ κs x e. x) _ (λ κs a x e p. p)

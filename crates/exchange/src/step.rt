@@ -1,6 +1,6 @@
 // What the session of any unit does at a step, whatever its closing is: it is done or declined, a byte is kept or sent, the gathered bytes are handed on.
-ghost use Rattle.std.specs.Prelude.{◌≡◌, ◌<◌, length, set, take};
-ghost use Rattle.exchange_rules.specs.Step.{stepped, refused_step};
+ghost use Rattle.std.specs.Prelude.{◌≡◌};
+ghost use Rattle.exchange_rules.specs.Step.{stepped, refused_step, byte_kept, byte_sent, bytes_gathered};
 
 use exchange_rules::{Line, Step};
 use refusals::{Declined, Done};
@@ -27,7 +27,7 @@ pub fn not_done<C>(line: Line, why: Declined) -> Step<C>
 
 // Keeps a byte at its place of the gathering store.
 pub fn keep(store: &mut [u8], at: usize, b: u8)
-    ensures { store.new ≡ set store.old at b }
+    ensures { store.new ≡ byte_kept store.old at b }
 {
     if at < store.len() {
         store[at] = b;
@@ -36,15 +36,15 @@ pub fn keep(store: &mut [u8], at: usize, b: u8)
 
 // One byte sent.
 pub fn send(room: &mut [u8], b: u8)
-    requires { 0 < length room.old }
-    ensures { room.new ≡ set room.old 0 b }
+    ensures { room.new ≡ byte_sent room.old b }
 {
-    room[0] = b;
+    keep(room, 0, b);
 }
 
-// The bytes of an answer that are gathered; no more than the store holds.
+// The bytes of an answer that are gathered, where they stand in the store; no more than it holds.
 pub fn gathered(store: &[u8], span: usize) -> &[u8]
-    ensures { result.now ≡ take span store.now }
+    ensures { (result.now ≡ bytes_gathered store.now span)
+        × (result.ref_ptr ≡ store.entry.ref_ptr) }
 {
-    store.get(..span).unwrap_or(store)
+    &store[..span.min(store.len())]
 }

@@ -169,7 +169,8 @@ fn fewest(values: &[u32], stocks: &[u32], each: u32, room: u32, amount: u32) -> 
     let most = stocks[0].min(each.min(room));
     let mut found = None;
     let mut left = amount;
-    for n in 0..=most {
+    // No `0..=most`: over a range with its end the search takes longer.
+    for n in 0..most + 1 {
         let rest = fewest(&values[1..], &stocks[1..], each, room - n, left);
         found = better_of(found, n, rest);
         if left < value {
@@ -196,8 +197,8 @@ fn better_of(found: Option<Counts>, n: u32, rest: Option<Counts>) -> Option<Coun
         third: c.second,
         fourth: c.third,
     };
-    match found {
-        Some(old) if old.notes < with.notes => found,
-        _ => Some(with),
-    }
+    Some(match found {
+        Some(old) if old.notes < with.notes => old,
+        _ => with,
+    })
 }

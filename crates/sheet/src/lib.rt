@@ -14,5 +14,5 @@ pub use room::{
 };
 pub use words::{
     byte, byte_at, frame, frame_byte, frame_from, frame_length, letter, line_end, number,
-    number_at, part, past, print_line, size,
+    number_at, part, past, print_line, print_one, size,
 };

@@ -1,7 +1,7 @@
 // The lines of a sheet.
 ghost use Rattle.std.specs.Prelude.{IfErr, Err};
 
-use crate::print;
+use crate::{print, words};
 use std::io;
 use std::io::Write;
 
@@ -10,8 +10,12 @@ pub fn each_line<F: FnMut(&[u8]) -> io::Result<()>>(all: &[u8], mut f: F) -> io:
     requires { F.IsAlwaysCallable f }
     ensures { IfErr result (λ e. (state : F) × (line : _) × (next : F) × F.step state line (Err e) next) }
 {
-    for line in all.split_inclusive(|b| *b == b'\n') {
-        f(line)?;
+    let mut at = 0;
+    // No `for`: each line says how far it goes, and `line_end` that it gets on.
+    while at < all.len() {
+        let end = words::line_end(all, at);
+        f(&all[at..end])?;
+        at = end;
     }
     Ok(())
 }

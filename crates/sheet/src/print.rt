@@ -33,7 +33,10 @@ fn part<W: Write>(out: &mut W, b: u8, value: u32) -> io::Result<usize>
 {
     match b {
         b'#' => write!(out, "{value}")?,
-        b'$' => write!(out, "{:02X}h", value % 256)?,
+        b'$' => {
+            let [high, low] = hex((value % 256) as u8);
+            print_text(out, &[high, low, b'h'])?
+        }
         _ => {
             print_text(out, &[b])?;
             return Ok(0);
@@ -47,10 +50,17 @@ fn value(values: &[u32], at: usize) -> u32 {
     values.get(at).copied().unwrap_or(0)
 }
 
+// A byte in hex, in capitals as document 01 has them. No `write!`, which writes each part by itself: standard output has no buffer, and a byte is one write.
+fn hex(b: u8) -> [u8; 2] {
+    let digits = b"0123456789ABCDEF";
+    [digits[(b / 16) as usize], digits[(b % 16) as usize]]
+}
+
 // The bytes of a frame, a blank before each: 04 50 02.
 pub fn print_bytes<W: Write>(out: &mut W, s: &[u8]) -> io::Result<()> {
     for &b in s {
-        write!(out, " {b:02X}")?;
+        let [high, low] = hex(b);
+        print_text(out, &[b' ', high, low])?;
     }
     Ok(())
 }

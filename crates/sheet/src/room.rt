@@ -88,5 +88,5 @@ fn print_kept<W: Write>(out: &mut W, room: &[u8], from: usize) -> io::Result<()>
 
 // Is every byte from a place on what it was?
 fn kept(room: &[u8], from: usize) -> bool {
-    room.iter().skip(from).all(|&b| b == FILL)
+    room[from.min(room.len())..].iter().all(|&b| b == FILL)
 }

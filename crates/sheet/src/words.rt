@@ -75,7 +75,7 @@ pub fn number(line: &[u8], before: usize) -> u32 {
 // The number that is said at a place.
 pub fn number_at(line: &[u8], at: usize) -> u32 {
     let mut n = 0;
-    for &b in line.iter().skip(at) {
+    for &b in &line[at.min(line.len())..] {
         if !b.is_ascii_digit() {
             break;
         }
@@ -111,6 +111,21 @@ pub fn print_line<W: Write>(out: &mut W, line: &[u8]) -> io::Result<()> {
     let end = past(line, 0, b'\n');
     if 0 < end {
         print::print_text(out, &line[0..end - 1])?;
+    }
+    Ok(())
+}
+
+// One of several forms, each ended by a bar: the one that has so many before it.
+pub fn print_one<W: Write>(
+    out: &mut W,
+    forms: &[u8],
+    before: usize,
+    values: &[u32],
+) -> io::Result<()> {
+    let at = part(forms, before, b'|');
+    let end = past(forms, at, b'|');
+    if at < end {
+        print::print_form(out, &forms[at..end - 1], values)?;
     }
     Ok(())
 }

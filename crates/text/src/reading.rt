@@ -43,8 +43,8 @@ fn is_blank(b: u8) -> bool {
 
 // The place of the first byte from a place on that is no blank.
 pub fn past_blanks(line: &[u8], from: usize) -> usize {
-    let blank = line.iter().skip(from).take_while(|b| is_blank(**b));
-    from + blank.count()
+    let rest = &line[from.min(line.len())..];
+    from + rest.iter().take_while(|b| is_blank(**b)).count()
 }
 
 fn is_digit(b: u8) -> bool {

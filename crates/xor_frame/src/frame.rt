@@ -51,6 +51,7 @@ impl Fault {
 }
 
 // The exclusive or of all bytes.
+#[tactic(auto, unfolding(crate::specs::Frame::check))]
 fn check_of(s: &[u8]) -> u8
     ensures { result ≡ check s.now }
 {

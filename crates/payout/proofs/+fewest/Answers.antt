@@ -1,7 +1,7 @@
 -- `payout::fewest` meets its contract. Assumes nothing.
 use native.Mathlib.Omega.{arith}
 use native.Mathlib.Nat.{add-mul, one-mul, zero-mul}
-use Prim.Native.Nat.{ℕ, ◌+◌, ◌-◌, ◌≤◌, ◌<◌}
+use Prim.Native.Nat.{ℕ, ◌-◌, ◌≤◌, ◌<◌}
 use mathlib.Core.Path.{◌≡◌, sym, ◌∙◌}
 use lib.ListN.{length, get_or}
 use Rattle.std.proofs.Common.{eqb-true, rules}
@@ -57,14 +57,11 @@ loop-n-preserved t c =
     l.invariant.2 c.fewest-rest.ensures in
     (omega (arith, c.loop-n-test.true), omega (arith, l.invariant.1, add-mul l.n 1 v, one-mul v, c.if-left-value.false), rw c.better_of-found.ensures k)
 
-pub returns-else-left-value : goal.returns-else-left-value
-returns-else-left-value t c =
+pub returns : goal.returns
+returns t c =
     let a = c.args in
     let l = c.loop-n in
     let some : (length a.values.now ≡ 0) → ⊥ = eqb-false _ 0 (sym c.is_empty.ensures ∙ c.if-is_empty.false) in
     let e : c.min-most.result ≡ lesser (get_or a.stocks.now 0 0) (lesser a.each a.room) = search rules in
-    let h : l.n ≤ most a.stocks.now a.each a.room = omega (arith, c.loop-n-test.true, e) in
-    let past : most a.stocks.now a.each a.room < l.n + 1 = omega (arith, e) in
-    let k = turns a.values.now a.stocks.now some c.requires.1 c.requires.0 _ _ _ l.left l.n l.found c.fewest-rest.result l.invariant.1 h
-    l.invariant.2 c.fewest-rest.ensures in
-    rw c.better_of-found.ensures (ends-most a.values.now a.stocks.now some c.requires.1 c.requires.0 _ _ _ (l.n + 1) _ past k)
+    let past : most a.stocks.now a.each a.room < l.n = omega (arith, e, c.loop-n-test.false) in
+    ends-most a.values.now a.stocks.now some c.requires.1 c.requires.0 _ _ _ l.n _ past l.invariant.2

@@ -1,16 +1,10 @@
 -- `xor_frame::frame::check_of` meets its contract: what is left of the bytes, after the sum so far, gives the check of all.
 -- Assumes nothing.
-use mathlib.Core.Path.{refl}
 use native.Mathlib.Numerals.{add-one}
 use native.Mathlib.Omega.{arith}
 use lib.Seq.{drop-cons}
-use Rattle.xor_frame.specs.Frame.{check}
 use Rattle.xor_frame.proofs.Check.{check-next, check-end}
 use Rattle.xor_frame.proofs.frame.check_of.Goals as goal
-
-pub loop-b-init : goal.loop-b-init
-unfolding check
-loop-b-init c = refl
 
 pub loop-b-preserved : goal.loop-b-preserved
 loop-b-preserved c =
